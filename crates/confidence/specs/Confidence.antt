@@ -1,6 +1,7 @@
 -- The test of confidence: after the sample size of SMARTS, with the sample variance, multiplied
 -- out to whole numbers, so that nothing is rounded.
-use Rattle.std.specs.Prelude.{◌-◌, ◌*◌, ◌/◌, ◌≤◌, ℕ, Bool, ◌&&◌, nat_le}
+use Rattle.std.specs.Prelude.{◌-◌, ◌*◌, ◌/◌, ◌≤◌, ℕ, Bool, ◌&&◌, nat_le, nat_lt, if◌then◌else◌, Option, None}
+use Rattle.smarts_base.specs.Least.{least_below}
 use Rattle.confidence.specs.declared.sums.Sums.{Sums}
 use Rattle.confidence.specs.declared.verdict.Test.{Test}
 use Rattle.confidence.specs.Sums.{square}
@@ -25,6 +26,11 @@ is_within sums z error =
 -- there are enough units, and the interval is narrow enough
 unfoldable pub is_confident : Sums → Test → Bool
 is_confident sums test = nat_le test.min sums.n && is_within sums test.z test.error
+
+-- the least error up to 9999 that the interval is within; one unit has no variance
+unfoldable pub least_error_of : Sums → ℕ → Option ℕ
+least_error_of sums z =
+    if nat_lt sums.n 2 then None else least_below 10000 (is_within sums z)
 
 -- ten thousand times the cycles per instruction, rounded down
 unfoldable pub cpi4_of : Sums → ℕ → ℕ

@@ -1,2 +1,3 @@
-pub mod Sums
+pub mod Answer
 pub mod Confidence
+pub mod Sums

@@ -2,11 +2,13 @@
 //! test of its confidence interval as an inequality of whole numbers.
 #![tactic(auto)]
 
+mod answer;
 mod sums;
 mod verdict;
 
+pub use answer::{Answer, PointFault, PointKind};
 pub use sums::Sums;
-pub use verdict::{Test, confident, cpi4};
+pub use verdict::{Test, confident, cpi4, least_error};
 
 #[cfg(test)]
 mod tests;

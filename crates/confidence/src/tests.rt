@@ -38,3 +38,23 @@ fn passes_at_a_tie(rt: HostRuntime) {
         );
     }
 }
+
+#[test]
+fn finds_the_least_error(rt: HostRuntime) {
+    let mut sums = Sums::new();
+    assert_eq!(rt; least_error(&sums, 3000), None, "no unit");
+    sums.add(16);
+    assert_eq!(rt; least_error(&sums, 3000), None, "one unit");
+    sums.add(20);
+    assert_eq!(rt; least_error(&sums, 3000), Some(3334));
+    sums.add(67_108_863);
+    assert_eq!(rt; least_error(&sums, 4000), None, "beyond 9999");
+}
+
+#[test]
+fn finds_no_error_of_equal_units(rt: HostRuntime) {
+    let mut sums = Sums::new();
+    sums.add(67_108_863);
+    sums.add(67_108_863);
+    assert_eq!(rt; least_error(&sums, 4000), Some(0));
+}

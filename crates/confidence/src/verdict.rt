@@ -1,8 +1,11 @@
 ghost use Rattle.std.specs.Prelude.{◌≡◌, ◌<◌, ◌≤◌};
 ghost use Rattle.confidence.specs.Sums.{IsBounded};
-ghost use Rattle.confidence.specs.Confidence.{is_confident, is_within, cpi4_of, IsInRange};
+ghost use Rattle.confidence.specs.Confidence.{is_confident, is_within, least_error_of, cpi4_of, IsInRange};
 
 use crate::Sums;
+
+/// The largest error that is looked for, in ten-thousandths.
+const LARGEST_ERROR: u32 = 9999;
 
 /// What a sample has to meet, so that a run may stop: after the sample size of SMARTS, the
 /// half width of the confidence interval of the mean, relative to the mean, is at most `error`.
@@ -42,6 +45,31 @@ pub fn confident(sums: &Sums, test: &Test) -> bool
     ensures { result ≡ is_confident sums.now test.now }
 {
     sums.n >= test.min && within(sums, test.z, test.error)
+}
+
+/// The least error, in ten-thousandths of the mean, that the sample's interval is within, up to
+/// 9999. It asks for no fewest units: two are enough.
+#[tactic(auto, unfolding(crate::specs::Confidence::least_error_of))]
+pub fn least_error(sums: &Sums, z: u32) -> Option<u32>
+    requires bounded { IsBounded sums.now }
+    requires z_least { 1 ≤ z }
+    requires z_most { z ≤ 4000 }
+    ensures { result ≡ least_error_of sums.now z }
+{
+    if sums.n < 2 || !within(sums, z, LARGEST_ERROR) {
+        return None;
+    }
+    let mut low = 0;
+    let mut high = LARGEST_ERROR;
+    while low < high {
+        let middle = (low + high) / 2;
+        if within(sums, z, middle) {
+            high = middle;
+        } else {
+            low = middle + 1;
+        }
+    }
+    Some(low)
 }
 
 /// Ten thousand times the cycles per instruction, rounded down, where each of the units measured
