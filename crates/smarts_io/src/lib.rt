@@ -11,6 +11,8 @@ mod remaining;
 mod sink;
 mod source;
 mod sure;
+#[cfg(test)]
+mod tests;
 mod writing;
 
 pub use adapters::{InputSource, OutputSink};

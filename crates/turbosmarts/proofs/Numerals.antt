@@ -1,5 +1,5 @@
 -- Texts of decimal digits, and what stands behind a key.
-use Rattle.std.proofs.Common.{◌≡◌, ◌<◌, ◌≤◌, ◌^◌, ℕ, List, Bool, true, false, ◌&&◌, nat_le, length, drop, Option, Some, None, Result, Ok, Err, MatchOption, refl, sym, ap, ◌∙◌, arith, Bor, lit<, rules, eqb}
+use Rattle.std.proofs.Common.{◌≡◌, ◌<◌, ◌≤◌, ◌^◌, ℕ, List, Bool, true, false, ◌&&◌, nat_le, length, drop, Option, Some, None, Result, Ok, MatchOption, refl, sym, ap, ◌∙◌, arith, Bor, rules, eqb}
 use Rattle.std.proofs.lemmas.Bool.{leb-true}
 use Rattle.std.proofs.lemmas.Str.Parse.{IsNumeralModel, numerals_by_value, parse_gives, digits_value_short}
 use Rattle.std.proofs.lemmas.Str.Pattern.{starts_text}

@@ -1,11 +1,10 @@
 -- How a run goes on and ends, from the state that it has come to.
-use Rattle.std.proofs.Common.{◌≡◌, ◌<◌, ◌≤◌, ◌+◌, ℕ, List, Bool, true, false, zero, suc, Option, Some, None, refl, sym, ap, ◌∙◌, arith, add-one, inl, inr}
+use Rattle.std.proofs.Common.{◌≡◌, ◌<◌, ◌≤◌, ◌+◌, ℕ, List, true, Some, refl, sym, ap, ◌∙◌, arith, add-one, inl, inr}
 use Rattle.std.proofs.lemmas.Bool.{cases_lt}
 use Rattle.smarts_base.specs.Least.{least_below}
 use Rattle.smarts_base.proofs.Leasts.{least_below_some, least_below_none}
 use Rattle.turbosmarts.specs.declared.machine.Core.{Core}
 use Rattle.turbosmarts.specs.declared.machine.TrapKind.{TrapKind}
-use Rattle.turbosmarts.specs.declared.machine.Outcome.{Outcome}
 use Rattle.turbosmarts.specs.declared.machine.Outcome.TheVariants.{Exited, Trapped, Spent}
 use Rattle.turbosmarts.specs.Machine.{Step, Goes, Exits, Traps, next, start}
 use Rattle.turbosmarts.specs.Running.{state_after, went, nth_step, is_last, ended_by, ended_at, outcome_of, IsUnderWay}

@@ -1,5 +1,5 @@
 -- What the program answers: a status and the bytes that it writes, as a function of its words and its input.
-use Rattle.std.specs.Prelude.{◌≡◌, ◌==◌, ℕ, List, [], nat_lt, if◌then◌else◌, Result, Ok, Err}
+use Rattle.std.specs.Prelude.{◌==◌, ℕ, List, [], nat_lt, if◌then◌else◌, Result, Ok, Err}
 use Rattle.confidence.specs.declared.verdict.Test.{Test}
 use Rattle.turbosmarts.specs.declared.image.ImageFault.{ImageFault}
 use Rattle.turbosmarts.specs.declared.image.TheConstants.{LARGEST}

@@ -1,4 +1,5 @@
 pub mod Answer
+pub mod Ends
 pub mod Image
 pub mod Machine
 pub mod Report

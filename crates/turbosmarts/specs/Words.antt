@@ -1,13 +1,19 @@
 -- The words of the command line.
-use Rattle.std.specs.Prelude.{ℕ, List, [], ◌∷◌, Bool, ◌&&◌, nat_eq, nat_le, length, drop, codes, if◌then◌else◌, Option, Some, None, option_and_then, Result, Ok, Err}
+use Rattle.std.specs.Prelude.{◌≤◌, ℕ, List, [], ◌∷◌, Bool, ◌&&◌, nat_eq, nat_le, length, drop, codes, if◌then◌else◌, Option, Some, None, option_and_then, Result, Ok, Err}
 use Rattle.std.specs.Char.{is_ascii_digit}
 use Rattle.std.specs.List.{starts_with, list_all}
 use Rattle.std.specs.Str.{bytes_eq}
 use Rattle.std.specs.Str.Parse.{digits_value}
 use Rattle.turbosmarts.specs.declared.words.Sample.{Sample}
 use Rattle.turbosmarts.specs.declared.words.WordFault.{WordFault}
-use Rattle.turbosmarts.specs.declared.words.WordKind.{WordKind}
 use Rattle.turbosmarts.specs.declared.words.WordKind.TheVariants.{NoCommand, NotBuilt}
+
+-- the numbers of a sample are in their ranges
+pub record IsInRange (sample : Sample) : Type 0 where
+  pub unit_least : 16 ≤ sample.unit
+  pub unit_most : sample.unit ≤ 10000
+  pub min_least : 2 ≤ sample.min
+  pub min_most : sample.min ≤ 65536
 
 -- one to five decimal digits
 abbrev pub is_number : List ℕ → Bool

@@ -1,4 +1,4 @@
-ghost use Rattle.std.specs.Prelude.{◌≡◌, ◌<◌, ◌≤◌, List, ℕ, length, MatchResult, Ok, Err};
+ghost use Rattle.std.specs.Prelude.{◌≡◌, ◌<◌, ◌≤◌, List, ℕ, length, IfOk, MatchResult, Ok, Err};
 ghost use Rattle.turbosmarts.specs.Image.{text_of, is_elf, is_plain, header_of};
 
 /// The largest image, in bytes.
@@ -37,9 +37,10 @@ pub enum ImageFault {
 /// which loads the words right behind it to a fixed address.
 #[tactic(auto, unfolding(crate::specs::Image::text_of))]
 pub fn text_of(input: &[u8]) -> Result<&[u8], ImageFault>
-    ensures { MatchResult result
+    ensures value { MatchResult result
         (λ text. text_of input.now ≡ Ok text.now)
         (λ fault. text_of input.now ≡ Err fault) }
+    ensures small { IfOk result (λ text. length text.now ≤ 67108864) }
 {
     if input.len() > LARGEST {
         return Err(ImageFault::TooLarge);

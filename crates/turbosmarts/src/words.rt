@@ -1,7 +1,7 @@
 ghost use Rattle.std.specs.Prelude.{◌≡◌, ◌<◌, ◌≤◌, ◌^◌, List, ℕ, map, string_bytes, IfOk, IfSome, MatchResult, Ok, Err, Result, Option, option_copied};
 ghost use Rattle.std.specs.Char.{is_ascii_digit};
 ghost use Rattle.std.specs.List.{list_all};
-ghost use Rattle.turbosmarts.specs.Words.{behind, command, is_number, number_behind, number_of};
+ghost use Rattle.turbosmarts.specs.Words.{IsInRange, behind, command, is_number, number_behind, number_of};
 
 /// A fault of the command line.
 #[derive(Clone, Copy, Debug, PartialEq, Eq)]
@@ -32,8 +32,7 @@ pub struct Sample {
 #[tactic(auto, unfolding(crate::specs::Words::command))]
 pub fn read_words(words: &[String]) -> Result<Sample, WordFault>
     ensures value { result ≡ command (map string_bytes words.now) }
-    ensures unit { IfOk result (λ sample. (16 ≤ sample.unit) × (sample.unit ≤ 10000)) }
-    ensures min { IfOk result (λ sample. (2 ≤ sample.min) × (sample.min ≤ 65536)) }
+    ensures in_range { IfOk result IsInRange }
 {
     let not_built = WordFault {
         kind: WordKind::NotBuilt,

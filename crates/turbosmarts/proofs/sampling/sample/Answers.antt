@@ -1,7 +1,5 @@
-use Rattle.std.proofs.Common.{◌≡◌, ◌<◌, ◌≤◌, ◌+◌, ℕ, List, length, replicate, take, sym, ◌∙◌, arith, rules, false, true}
+use Rattle.std.proofs.Common.{ℕ, sym, arith, rules}
 use Rattle.std.proofs.lemmas.List.{length-replicate}
-use Rattle.confidence.specs.Confidence.{is_confident}
-use Rattle.confidence.specs.Sums.{sums_of}
 use Rattle.turbosmarts.proofs.Samples.{added, goes_on, stops, never_stops}
 use Rattle.turbosmarts.proofs.sampling.sample.Goals as goal
 
