@@ -1,0 +1,5 @@
+pub mod Decoding
+pub mod Encoding
+pub mod Field
+pub mod Roles
+pub mod Table
