@@ -1,4 +1,5 @@
 pub mod Endings
+pub mod Folds
 pub mod Numerals
 pub mod Runs
 pub mod Samples

@@ -4,6 +4,7 @@
 
 mod answering;
 mod command;
+mod folding;
 mod image;
 mod machine;
 mod report;
