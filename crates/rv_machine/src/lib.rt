@@ -1,0 +1,5 @@
+//! A whole machine: the memory of a program with its heap and stack, the start from an image, and
+//! the run up to its end.
+#![tactic(auto)]
+
+mod blocks;
