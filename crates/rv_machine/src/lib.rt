@@ -3,3 +3,9 @@
 #![tactic(auto)]
 
 mod blocks;
+mod outcome;
+mod output;
+mod whole;
+
+pub use outcome::{MachineFault, Outcome};
+pub use whole::Whole;
