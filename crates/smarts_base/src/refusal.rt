@@ -1,3 +1,6 @@
+ghost use Rattle.std.specs.Prelude.{◌≡◌};
+ghost use Rattle.smarts_base.specs.declared.refusal.Refusal.TheVariants.{NoMemory};
+
 use std::alloc::{AllocError, AllocFailed};
 
 /// The answer of a call for which memory could not be had. It is merged with no other cause.
@@ -23,4 +26,12 @@ pub enum Refusal<E> {
     Fault(E),
     /// Memory could not be had.
     NoMemory,
+}
+
+impl<E> From<NoMemory> for Refusal<E> {
+    ghost from_gives = { λ _ refusal. refusal ≡ NoMemory };
+
+    fn from(_missing: NoMemory) -> Refusal<E> {
+        Refusal::NoMemory
+    }
 }

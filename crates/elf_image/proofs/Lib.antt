@@ -1,0 +1,9 @@
+pub mod Fills
+pub mod FirstOfAll
+pub mod Headers
+pub mod Loaded
+pub mod Overlaps
+pub mod Ranges
+pub mod Spans
+pub mod Verdicts
+pub mod Words
