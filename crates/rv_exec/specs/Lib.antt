@@ -1,0 +1,9 @@
+pub mod Actions
+pub mod Arithmetic
+pub mod Bytes
+pub mod Events
+pub mod Machine
+pub mod Memory
+pub mod Next
+pub mod Steps
+pub mod Word
