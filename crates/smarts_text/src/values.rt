@@ -19,7 +19,7 @@ fn are_digits(text: &str) -> bool
     text.bytes().all(|b| b.is_ascii_digit())
 }
 
-#[tactic(auto, using(crate::proofs::Texts::parses_number), unfolding(crate::specs::Values::number_of))]
+#[tactic(auto, using(crate::proofs::Numerals::parses_number), unfolding(crate::specs::Values::number_of))]
 fn number(text: &str) -> Option<u64>
     ensures { result ≡ number_of text.now }
 {

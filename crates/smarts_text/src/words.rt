@@ -7,7 +7,7 @@ use crate::read::WordKind;
 use crate::values::misread;
 
 // The key and the value of a word: what stands left and right of its first `=`.
-#[tactic(auto, using(crate::proofs::Texts::parts_found))]
+#[tactic(auto, using(crate::proofs::Numerals::parts_found))]
 fn parts(word: &str) -> Option<(&str, &str)>
     ensures { parts_copied result ≡ parts_of word.now }
 {
