@@ -1,5 +1,2 @@
-pub mod Endings
 pub mod Folds
-pub mod Numerals
-pub mod Runs
-pub mod Samples
+pub mod Measures

@@ -1,79 +1,106 @@
--- What the program answers: a status and the bytes that it writes, as a function of its words and its input.
-use Rattle.std.specs.Prelude.{◌==◌, ℕ, List, [], nat_lt, if◌then◌else◌, Result, Ok, Err}
+-- What the program answers: a status, the bytes that it writes, and what it tells, as a function of its words and
+-- its input.
+use Rattle.std.specs.Prelude.{ℕ, List, [], map, Result, Ok, Err}
+use Rattle.confidence.specs.declared.answer.Answer.{Answer as UnitAnswer}
 use Rattle.confidence.specs.declared.verdict.Test.{Test}
-use Rattle.turbosmarts.specs.declared.image.ImageFault.{ImageFault}
-use Rattle.turbosmarts.specs.declared.image.TheConstants.{LARGEST}
-use Rattle.turbosmarts.specs.declared.machine.Outcome.{Outcome}
-use Rattle.turbosmarts.specs.declared.machine.Outcome.TheVariants.{Exited, Trapped, Spent}
-use Rattle.turbosmarts.specs.declared.sampling.Sampled.{Sampled}
-use Rattle.turbosmarts.specs.declared.status.DesignFault.TheVariants.{NoUnits, TooMany}
-use Rattle.turbosmarts.specs.declared.status.InputFault.{InputFault}
-use Rattle.turbosmarts.specs.declared.status.InputFault.TheVariants as faults
-use Rattle.turbosmarts.specs.declared.status.Status.{Status}
-use Rattle.turbosmarts.specs.declared.status.Status.TheVariants.{Done, BadWords}
-use Rattle.turbosmarts.specs.declared.words.Sample.{Sample}
-use Rattle.turbosmarts.specs.declared.words.WordFault.{WordFault}
+use Rattle.elf_image.specs.declared.fault.ImageFault.{ImageFault}
+use Rattle.elf_image.specs.Image.{ImageValue, image_of}
+use Rattle.ordered_fold.specs.Ending.{ending_of, sums_at_end}
+use Rattle.rv_machine.specs.declared.outcome.Outcome.{Outcome}
+use Rattle.rv_machine.specs.declared.outcome.Outcome.TheVariants.{Exited, Trapped, Spent}
+use Rattle.rv_machine.specs.Running.{outcome_of, output_after}
+use Rattle.rv_machine.specs.Start.{start_of}
+use Rattle.sample_design.specs.declared.design.Design.{Design}
+use Rattle.sample_design.specs.declared.units.UnitsFault.{UnitsFault}
+use Rattle.sample_design.specs.declared.units.UnitsFault.TheVariants as units
+use Rattle.sample_design.specs.Units.{units_of}
 use Rattle.smarts_base.specs.Outcome.{◌>>=◌}
 use Rattle.smarts_io.specs.Bytes.{cut_past}
-use Rattle.turbosmarts.specs.Image.{text_of}
-use Rattle.turbosmarts.specs.Report.{report_of}
-use Rattle.turbosmarts.specs.Running.{outcome_of}
-use Rattle.turbosmarts.specs.Sampling.{unit_count, answers, sample_of}
-use Rattle.turbosmarts.specs.Status.{status_of}
-use Rattle.turbosmarts.specs.Words.{command}
+use Rattle.smarts_text.specs.declared.command.Command.{Command}
+use Rattle.smarts_text.specs.declared.command.Command.TheVariants.{Sample, Run}
+use Rattle.smarts_text.specs.declared.status.DesignFault.TheVariants.{NoUnits, TooMany}
+use Rattle.smarts_text.specs.declared.status.Status.{Status}
+use Rattle.smarts_text.specs.declared.status.Status.TheVariants.{Done, BadWords}
+use Rattle.smarts_text.specs.declared.read.WordFault.{WordFault}
+use Rattle.smarts_text.specs.Meaning.{meaning}
+use Rattle.smarts_text.specs.Report.{report_of}
+use Rattle.smarts_text.specs.Texts.{exit_line}
+use Rattle.turbosmarts.specs.declared.fault.InputFault.{InputFault}
+use Rattle.turbosmarts.specs.declared.fault.InputFault.TheVariants as faults
+use Rattle.turbosmarts.specs.declared.latency.Latencies.{Latencies}
+use Rattle.turbosmarts.specs.Faults.{status_of}
+use Rattle.turbosmarts.specs.Units.{unit_answers}
 
--- the most instructions that a run may have
-abbrev pub budget : ℕ
-budget = 1000000000
-
--- the test of a sample: three standard deviations within three percent of the mean
-abbrev pub test_of : Sample → Test
-test_of sample = record { min = sample.min; z = 3000; error = 300 }
-
-abbrev pub image_or_fault : {A : Type 0} → Result A ImageFault → Result A InputFault
-image_or_fault (Ok image) = Ok image
-image_or_fault (Err fault) = Err (faults.BadImage fault)
-
--- the length of a run that exits
-abbrev pub length_or_fault : Outcome → Result ℕ InputFault
-length_or_fault (Exited code length) = Ok length
-length_or_fault (Trapped at trap) = Err (faults.Trapped at trap)
-length_or_fault Spent = Err (faults.BudgetSpent budget)
-
--- a number of units that can be sampled: 1 to 65,536
-abbrev pub count_or_fault : ℕ → ℕ → Result ℕ InputFault
-count_or_fault length count =
-    if count == 0 then Err (faults.BadDesign (NoUnits length))
-    else (if nat_lt 65536 count then Err (faults.BadDesign (TooMany count)) else Ok count)
-
-abbrev pub report_on : Sample → ℕ → ℕ → Sampled → List ℕ
-report_on sample length count sampled =
-    report_of length count sample.unit sampled.confident sampled.sums 3000
-
--- the report of a sample of the program in the input, or the first fault
-unfoldable pub report_for : Sample → List ℕ → Result (List ℕ) InputFault
-report_for sample input = do
-  text ← image_or_fault (text_of input)
-  length ← length_or_fault (outcome_of text budget)
-  count ← count_or_fault length (unit_count length sample.unit)
-  Ok (report_on sample length count (sample_of (test_of sample) (answers text sample.unit count)))
-
--- the status that a call ends with, and the bytes that it writes
-pub record Answer : Type 0 where
-  pub status : Status
-  pub bytes : List ℕ
-
-abbrev pub done_or_refused : Result (List ℕ) InputFault → Answer
-done_or_refused (Ok report) = record { status = Done; bytes = report }
-done_or_refused (Err fault) = record { status = status_of fault; bytes = [] }
-
-abbrev pub answer_to : Result Sample WordFault → List ℕ → Answer
-answer_to (Ok sample) input = done_or_refused (report_for sample input)
-answer_to (Err fault) input = record { status = BadWords fault; bytes = [] }
-
-unfoldable pub answer : List (List ℕ) → List ℕ → Answer
-answer words input = answer_to (command words) input
+-- the largest image, in bytes
+abbrev pub image_limit : ℕ
+image_limit = 67_108_864
 
 -- what is taken in of an input: all of it, up to one byte more than an image may have
 abbrev pub taken_in : List ℕ → List ℕ
-taken_in input = cut_past LARGEST input
+taken_in input = cut_past image_limit input
+
+-- what an accepted command writes, and what it tells
+pub record Written : Type 0 where
+  pub bytes : List ℕ
+  pub lines : List ℕ
+
+abbrev pub image_or_fault : Result ImageValue ImageFault → Result ImageValue InputFault
+image_or_fault (Ok image) = Ok image
+image_or_fault (Err fault) = Err (faults.BadImage fault)
+
+-- the exit code and the length of a run that exits
+pub record Exit : Type 0 where
+  pub code : ℕ
+  pub length : ℕ
+
+abbrev pub exit_or_fault : ℕ → Outcome → Result Exit InputFault
+exit_or_fault budget (Exited code length) = Ok (record { code = code; length = length })
+exit_or_fault budget (Trapped at trap) = Err (faults.Trapped at trap)
+exit_or_fault budget Spent = Err (faults.BudgetSpent budget)
+
+abbrev pub units_or_fault : Result ℕ UnitsFault → Result ℕ InputFault
+units_or_fault (Ok count) = Ok count
+units_or_fault (Err (units.NoUnits length)) = Err (faults.BadDesign (NoUnits length))
+units_or_fault (Err (units.TooMany count)) = Err (faults.BadDesign (TooMany count))
+
+-- the report on a run of that length with so many sampled units
+abbrev pub report_on : Design → Test → ℕ → ℕ → List UnitAnswer → List ℕ
+report_on design test length count answers =
+    report_of length count design.unit (ending_of test answers) (sums_at_end test answers) test.z
+
+-- the report of a sample of the program in the input, or the first fault: of the image, of its run, of its units
+unfoldable pub sample_of : Design → Latencies → Test → List ℕ → Result Written InputFault
+sample_of design latencies test input = do
+  image ← image_or_fault (image_of input)
+  exit ← exit_or_fault design.budget (outcome_of (start_of image) design.budget)
+  count ← units_or_fault (units_of design exit.length)
+  Ok (record { bytes = report_on design test exit.length count (unit_answers latencies (start_of image) design count); lines = [] })
+
+-- the output of the program in the input, or the first fault: of the image, of its run
+unfoldable pub run_of : ℕ → List ℕ → Result Written InputFault
+run_of budget input = do
+  image ← image_or_fault (image_of input)
+  exit ← exit_or_fault budget (outcome_of (start_of image) budget)
+  Ok (record { bytes = output_after (start_of image) exit.length; lines = exit_line exit.code exit.length })
+
+abbrev pub written_by : Command → List ℕ → Result Written InputFault
+written_by (Sample design ruu mul div l1 test) input =
+    sample_of design (record { mul = mul; div = div; l1 = l1 }) test input
+written_by (Run budget) input = run_of budget input
+
+-- the status that a call ends with, and what it writes and tells where it is done
+pub record Answer : Type 0 where
+  pub status : Status
+  pub bytes : List ℕ
+  pub lines : List ℕ
+
+abbrev pub done_or_refused : Result Written InputFault → Answer
+done_or_refused (Ok written) = record { status = Done; bytes = written.bytes; lines = written.lines }
+done_or_refused (Err fault) = record { status = status_of fault; bytes = []; lines = [] }
+
+abbrev pub answer_to : Result Command WordFault → List ℕ → Answer
+answer_to (Ok command) input = done_or_refused (written_by command input)
+answer_to (Err fault) input = record { status = BadWords fault; bytes = []; lines = [] }
+
+unfoldable pub answer : List (List ℕ) → List ℕ → Answer
+answer words input = answer_to (meaning words) input

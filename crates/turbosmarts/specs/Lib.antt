@@ -1,10 +1,7 @@
 pub mod Answer
 pub mod Ends
-pub mod Image
-pub mod Machine
-pub mod Report
-pub mod Running
-pub mod Sampling
-pub mod Status
+pub mod Faults
+pub mod Parts
+pub mod Tells
+pub mod Units
 pub mod Visits
-pub mod Words
