@@ -1,8 +1,12 @@
 -- Measuring the units of a run, one after the other.
-use Rattle.std.proofs.Common.{◌≡◌, ◌<◌, ◌≤◌, ◌+◌, ◌-◌, ◌*◌, ◌++◌, ℕ, List, [], ◌∷◌, length, drop, map, slice_index, sum_by, zero, suc, refl, sym, ap, ◌∙◌, subst, arith, inl, inr, add-one}
+use Rattle.std.proofs.Common.{◌≡◌, ◌<◌, ◌≤◌, ◌+◌, ◌-◌, ◌*◌, ◌++◌, ℕ, List, [], ◌∷◌, length, drop, map, slice_index, sum_by, zero, suc, refl, sym, ap, ◌∙◌, subst, arith, inl, inr, zero-add, add-zero, add-one}
+use Rattle.std.proofs.Math.Nat.{mul-le-mul_left, mul-le-mul_right, mul-suc}
 use Rattle.std.specs.List.{range_with_len}
 use Rattle.std.proofs.lemmas.Bool.{cases_lt}
-use Rattle.std.proofs.lemmas.List.{length-append}
+use Rattle.std.proofs.lemmas.List.{length-append, get_or_append_left}
+use Rattle.std.proofs.lemmas.List.FromFn.{sum_by-map-range_with_len_more}
+use Rattle.std.proofs.lemmas.List.{drop-map}
+use Rattle.std.proofs.Math.Seq.{get_or-append_seam}
 use Rattle.confidence.specs.Sums.{IsCycles}
 use Rattle.rv_exec.specs.Machine.{State}
 use Rattle.rv_machine.specs.Running.{step_at}
@@ -13,21 +17,45 @@ use Rattle.turbosmarts.specs.Parts.{cycles_from, IsMeasuring, AreMeasured}
 use Rattle.turbosmarts.specs.Units.{cycles_at, trace_of, scalar_cycles, unit_cycles}
 
 drop_range : (a k n : ℕ) → drop k (range_with_len a (k + n)) ≡ range_with_len (a + k) n
-drop_range a zero n = ?
-drop_range a (suc k) n = ?
+drop_range a zero n = rw (zero-add, add-zero) refl
+drop_range a (suc k) n =
+    let longer : suc k + n ≡ suc (k + n) = omega arith in
+    let later : a + 1 + k ≡ a + suc k = omega arith in
+    rw longer (drop_range (a + 1) k n ∙ ap (λ (b : ℕ). range_with_len b n) later)
 
 -- the cycles of a unit are those of the instructions from its first on
 pub unit_is :
     (latencies : Latencies) (start : State) (design : Design) (unit : ℕ)
     → unit_cycles latencies start design unit ≡ cycles_from latencies start (unit * design.unit) design.unit
 unfolding unit_cycles cycles_from
-unit_is latencies start design unit = ?
+unit_is latencies start design unit =
+    let first : ℕ = unit * design.unit in
+    let begin : ℕ = first - design.warm in
+    let skip : ℕ = first - begin in
+    let whole : begin + skip ≡ first = omega arith in
+    ap (sum_by (cycles_at latencies))
+        (drop-map (step_at start) skip (range_with_len begin (skip + design.unit))
+        ∙ ap (map (step_at start))
+            (drop_range begin skip design.unit ∙ ap (λ (b : ℕ). range_with_len b design.unit) whole))
+
+-- the cycles of one instruction more
+pub cycles_more :
+    (latencies : Latencies) (start : State) (at done : ℕ)
+    → cycles_from latencies start at (done + 1)
+    ≡ cycles_from latencies start at done + cycles_at latencies (step_at start (at + done))
+unfolding cycles_from
+cycles_more latencies start at done =
+    sum_by-map-range_with_len_more (cycles_at latencies) (step_at start) at done (at + done) refl
+
+pub no_cycles : (latencies : Latencies) (start : State) (at : ℕ) → cycles_from latencies start at 0 ≡ 0
+unfolding cycles_from
+no_cycles latencies start at = refl
 
 pub measuring_start :
     (latencies : Latencies) (start : State) (design : Design)
     → IsMeasuring latencies start design 0 design.offset []
 measuring_start latencies start design = record {
-  next_is = ?;
+  next_is = omega arith;
   few = omega arith;
   ahead = λ h. omega arith;
   units = λ p h. absurd (omega arith);
@@ -43,7 +71,15 @@ pub measuring_on :
 measuring_on latencies start design unit next cycles before passed = record {
   next_is = before.next_is;
   few = before.few;
-  ahead = λ h. ?;
+  ahead = λ h.
+    let behind : unit ≤ next = before.ahead h in
+    elim (cases_lt unit next) [
+      inl lt ↦ omega arith
+    | inr ge ↦
+        let same : unit ≡ next = omega arith in
+        let full : 65536 ≤ length cycles = passed same in
+        absurd (omega arith)
+    ];
   units = before.units;
   valid = before.valid;
 }
@@ -55,7 +91,31 @@ pub measuring_more :
     → unit ≡ next → length cycles < 65536 → 1 ≤ design.every → IsCycles c
     → c ≡ cycles_from latencies start (unit * design.unit) design.unit
     → IsMeasuring latencies start design (unit + 1) (next + design.every) (cycles ++ c ∷ [])
-measuring_more latencies start design unit next c cycles before here room every valid is = ?
+measuring_more latencies start design unit next c cycles before here room every valid is =
+    let longer : length (cycles ++ c ∷ []) ≡ length cycles + 1 = length-append cycles (c ∷ []) in
+    let place : sampled_unit design (length cycles) ≡ unit = sym before.next_is ∙ sym here in
+    let times : design.every * (length cycles + 1) ≡ design.every * length cycles + design.every =
+        rw add-one (mul-suc design.every (length cycles)) in
+    record {
+      next_is = omega (arith, before.next_is, ap (λ (n : ℕ). design.every * n) longer);
+      few = omega arith;
+      ahead = λ h. omega arith;
+      units = λ p h.
+        elim (cases_lt p (length cycles)) [
+          inl lt ↦ get_or_append_left cycles (c ∷ []) 0 p lt ∙ before.units p lt
+        | inr ge ↦
+            let same : p ≡ length cycles = omega arith in
+            rw same (get_or-append_seam cycles c [] 0 ∙ is ∙ sym (unit_is latencies start design unit)
+                ∙ ap (unit_cycles latencies start design) (sym place))
+        ];
+      valid = λ p h.
+        elim (cases_lt p (length cycles)) [
+          inl lt ↦ rw (get_or_append_left cycles (c ∷ []) 0 p lt) (before.valid p lt)
+        | inr ge ↦
+            let same : p ≡ length cycles = omega arith in
+            rw (same, get_or-append_seam cycles c [] 0) valid
+        ];
+    }
 
 -- where the run is as long as so many units and a part of one, all that end within it were measured
 pub all_measured :
@@ -63,7 +123,16 @@ pub all_measured :
     → IsMeasuring latencies start design unit next cycles → len < (unit + 1) * design.unit
     → AreMeasured latencies start design len cycles
 all_measured latencies start design unit next len cycles before short = record {
-  all = ?;
+  all = λ p few ends.
+    elim (cases_lt p (length cycles)) [
+      inl lt ↦ lt
+    | inr ge ↦
+        let behind : unit ≤ next = before.ahead (omega arith) in
+        let later : design.every * length cycles ≤ design.every * p = mul-le-mul_left design.every ge in
+        let past : (unit + 1) * design.unit ≤ (sampled_unit design p + 1) * design.unit =
+            mul-le-mul_right design.unit (omega (arith, before.next_is)) in
+        absurd (omega arith)
+    ];
   units = before.units;
   valid = before.valid;
 }

@@ -1,5 +1,5 @@
 -- Parts of a run, and what is measured of them.
-use Rattle.std.specs.Prelude.{◌≡◌, ◌<◌, ◌≤◌, ◌+◌, ◌*◌, ℕ, List, length, slice_index, sum_by}
+use Rattle.std.specs.Prelude.{◌≡◌, ◌<◌, ◌≤◌, ◌+◌, ◌*◌, ℕ, List, length, map, slice_index, sum_by}
 use Rattle.std.specs.List.{range_with_len}
 use Rattle.confidence.specs.Sums.{IsCycles}
 use Rattle.rv_exec.specs.declared.event.Trap.{Trap}
@@ -27,7 +27,7 @@ pub record AreInRange (latencies : Latencies) : Type 0 where
 -- the cycles of so many instructions from a place on
 unfoldable pub cycles_from : Latencies → State → ℕ → ℕ → ℕ
 cycles_from latencies start at count =
-    sum_by (λ k. cycles_at latencies (step_at start k)) (range_with_len at count)
+    sum_by (cycles_at latencies) (map (step_at start) (range_with_len at count))
 
 -- how a part of so many instructions ended, that began at a place
 abbrev pub EndsPart : Machine → ℕ → ℕ → ℕ → Machine → PartEnd → Type 0
