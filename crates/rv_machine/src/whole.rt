@@ -1,10 +1,26 @@
-ghost use Rattle.std.specs.Prelude.{◌≡◌};
+ghost use Rattle.std.specs.Prelude.{◌≡◌, None, IfOk};
+ghost use Rattle.elf_image.specs.Image.{IsImage};
+ghost use Rattle.rv_exec.specs.Events.{IsWellFormed};
+ghost use Rattle.rv_exec.specs.Machine.{state};
+ghost use Rattle.rv_machine.specs.Machine.{started, Advances};
 
 use crate::blocks::Blocks;
-use rv_exec::Core;
+use crate::outcome::MachineFault;
+use crate::output::append;
+use elf_image::Image;
+use rv_exec::{Core, Event, step};
+use smarts_base::NoMemory;
+use std::alloc::Global;
 use std::marker::Model;
 
-/// A machine with all its memory.
+/// The register with the stack pointer, and where it points at the start: a page below the end of
+/// the stack.
+const STACK_POINTER: usize = 2;
+
+const STACK_START: u32 = 0x7FFF_F000;
+
+/// A machine with all its memory: that of the program with 64 MiB of heap behind it, and 1 MiB of
+/// stack below 0x80000000.
 #[derive(Debug, Drop)]
 pub struct Whole {
     core: Core,
@@ -28,3 +44,61 @@ impl Model for Whole {
 
     ghost invariant = { HasBlocks };
 }
+
+impl Whole {
+    /// The machine before the first instruction of an image. Its output is kept only if that is
+    /// asked for.
+    #[tactic(auto, unfolding(crate::specs::Start::start_of, crate::specs::Start::start_words))]
+    pub fn new(alloc: Global, image: &Image, keep_output: bool) -> Result<Whole, NoMemory>
+        ensures { IfOk result (λ whole. whole ≡ started image.now keep_output) }
+    {
+        let memory = Blocks::new(alloc, image)?;
+        let mut regs = [0; 32];
+        regs[STACK_POINTER] = STACK_START;
+        let core = Core {
+            pc: image.entry(),
+            regs,
+            brk: image.heap_low(),
+            heap_low: image.heap_low(),
+            exit: None,
+        };
+        Ok(Whole {
+            core,
+            memory,
+            keep_output,
+            output: Vec::new(alloc),
+        })
+    }
+
+    /// Executes one instruction. Memory can be wanted only where the output is kept and the
+    /// instruction writes to it.
+    pub fn advance(&mut self) -> Result<Event, MachineFault>
+        requires { self.old.state.exit ≡ None }
+        ensures advances { Advances self.old result self.new }
+        ensures well_formed { IfOk result IsWellFormed }
+    {
+        let before = self.core.regs[ANSWER];
+        let event = match step(&mut self.core, &mut self.memory) {
+            Ok(event) => event,
+            Err(trap) => return Err(MachineFault::Trap(trap)),
+        };
+        if !self.keep_output {
+            return Ok(event);
+        }
+        let Some(buffer) = event.wrote else {
+            return Ok(event);
+        };
+        match append(&mut self.output, &self.memory, buffer) {
+            Ok(()) => Ok(event),
+            Err(NoMemory) => {
+                // The call is undone: it has changed nothing else.
+                self.core.regs[ANSWER] = before;
+                self.core.pc = event.pc;
+                Err(MachineFault::NoMemory)
+            }
+        }
+    }
+}
+
+/// The register that a call answers in.
+const ANSWER: usize = 10;
