@@ -34,9 +34,9 @@ unit_is latencies start design unit =
     let skip : ℕ = first - begin in
     let whole : begin + skip ≡ first = omega arith in
     ap (sum_by (cycles_at latencies))
-        (drop-map (step_at start) skip (range_with_len begin (skip + design.unit))
-        ∙ ap (map (step_at start))
-            (drop_range begin skip design.unit ∙ ap (λ (b : ℕ). range_with_len b design.unit) whole))
+    (drop-map (step_at start) skip (range_with_len begin (skip + design.unit))
+    ∙ ap (map (step_at start))
+    (drop_range begin skip design.unit ∙ ap (λ (b : ℕ). range_with_len b design.unit) whole))
 
 -- the cycles of one instruction more
 pub cycles_more :
@@ -72,14 +72,14 @@ measuring_on latencies start design unit next cycles before passed = record {
   next_is = before.next_is;
   few = before.few;
   ahead = λ h.
-    let behind : unit ≤ next = before.ahead h in
-    elim (cases_lt unit next) [
-      inl lt ↦ omega arith
-    | inr ge ↦
-        let same : unit ≡ next = omega arith in
-        let full : 65536 ≤ length cycles = passed same in
-        absurd (omega arith)
-    ];
+      let behind : unit ≤ next = before.ahead h in
+      elim (cases_lt unit next) [
+        | inl lt ↦ omega arith
+        | inr ge ↦
+            let same : unit ≡ next = omega arith in
+            let full : 65536 ≤ length cycles = passed same in
+            absurd (omega arith)
+      ];
   units = before.units;
   valid = before.valid;
 }
@@ -95,26 +95,26 @@ measuring_more latencies start design unit next c cycles before here room every 
     let longer : length (cycles ++ c ∷ []) ≡ length cycles + 1 = length-append cycles (c ∷ []) in
     let place : sampled_unit design (length cycles) ≡ unit = sym before.next_is ∙ sym here in
     let times : design.every * (length cycles + 1) ≡ design.every * length cycles + design.every =
-        rw add-one (mul-suc design.every (length cycles)) in
+    rw add-one (mul-suc design.every (length cycles)) in
     record {
       next_is = omega (arith, before.next_is, ap (λ (n : ℕ). design.every * n) longer);
       few = omega arith;
       ahead = λ h. omega arith;
       units = λ p h.
-        elim (cases_lt p (length cycles)) [
-          inl lt ↦ get_or_append_left cycles (c ∷ []) 0 p lt ∙ before.units p lt
-        | inr ge ↦
-            let same : p ≡ length cycles = omega arith in
-            rw same (get_or-append_seam cycles c [] 0 ∙ is ∙ sym (unit_is latencies start design unit)
+          elim (cases_lt p (length cycles)) [
+            | inl lt ↦ get_or_append_left cycles (c ∷ []) 0 p lt ∙ before.units p lt
+            | inr ge ↦
+                let same : p ≡ length cycles = omega arith in
+                rw same (get_or-append_seam cycles c [] 0 ∙ is ∙ sym (unit_is latencies start design unit)
                 ∙ ap (unit_cycles latencies start design) (sym place))
-        ];
+          ];
       valid = λ p h.
-        elim (cases_lt p (length cycles)) [
-          inl lt ↦ rw (get_or_append_left cycles (c ∷ []) 0 p lt) (before.valid p lt)
-        | inr ge ↦
-            let same : p ≡ length cycles = omega arith in
-            rw (same, get_or-append_seam cycles c [] 0) valid
-        ];
+          elim (cases_lt p (length cycles)) [
+            | inl lt ↦ rw (get_or_append_left cycles (c ∷ []) 0 p lt) (before.valid p lt)
+            | inr ge ↦
+                let same : p ≡ length cycles = omega arith in
+                rw (same, get_or-append_seam cycles c [] 0) valid
+          ];
     }
 
 -- where the run is as long as so many units and a part of one, all that end within it were measured
@@ -124,15 +124,15 @@ pub all_measured :
     → AreMeasured latencies start design len cycles
 all_measured latencies start design unit next len cycles before short = record {
   all = λ p few ends.
-    elim (cases_lt p (length cycles)) [
-      inl lt ↦ lt
-    | inr ge ↦
-        let behind : unit ≤ next = before.ahead (omega arith) in
-        let later : design.every * length cycles ≤ design.every * p = mul-le-mul_left design.every ge in
-        let past : (unit + 1) * design.unit ≤ (sampled_unit design p + 1) * design.unit =
+      elim (cases_lt p (length cycles)) [
+        | inl lt ↦ lt
+        | inr ge ↦
+            let behind : unit ≤ next = before.ahead (omega arith) in
+            let later : design.every * length cycles ≤ design.every * p = mul-le-mul_left design.every ge in
+            let past : (unit + 1) * design.unit ≤ (sampled_unit design p + 1) * design.unit =
             mul-le-mul_right design.unit (omega (arith, before.next_is)) in
-        absurd (omega arith)
-    ];
+            absurd (omega arith)
+      ];
   units = before.units;
   valid = before.valid;
 }

@@ -5,3 +5,4 @@ pub mod Parts
 pub mod Tells
 pub mod Units
 pub mod Visits
+pub mod Writtens

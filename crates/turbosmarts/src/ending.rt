@@ -1,4 +1,4 @@
-ghost use Rattle.std.specs.Prelude.{◌≡◌, take, drop, length, ◌++◌};
+ghost use Rattle.std.specs.Prelude.{◌≡◌, ◌≤◌, take};
 ghost use Rattle.turbosmarts.specs.Ends.{told_of};
 
 use smarts_text::{Status, exit_text, fault_text};

@@ -2,11 +2,14 @@
 //! answer to standard output, and tells a person about it on standard error.
 #![tactic(auto)]
 
+mod answering;
+mod command;
 mod ending;
 mod fault;
 mod folding;
 mod latency;
 mod measuring;
 mod telling;
+mod top;
 
 fn main(_rt: HostRuntime) {}

@@ -1,4 +1,27 @@
+ghost use Rattle.std.specs.Prelude.{◌≡◌, ◌≤◌, ◌<◌, ◌+◌, ℕ, None, IfOk, length};
+ghost use Rattle.rv_machine.specs.declared.outcome.Outcome.TheVariants.{Exited};
+ghost use Rattle.rv_machine.specs.Machine.{Machine, IsUnderWay};
+ghost use Rattle.rv_machine.specs.Running.{outcome_of};
+ghost use Rattle.sample_design.specs.Design.{IsUsable};
+ghost use Rattle.turbosmarts.specs.Parts.{AreInRange, AreMeasured, IsPart};
+
+use crate::latency::{Latencies, latency_of};
 use rv_exec::Trap;
+use rv_machine::{MachineFault, Outcome, Whole};
+use sample_design::Design;
+use smarts_base::NoMemory;
+use std::alloc::Global;
+
+/// The most units that are kept: a sample of more is refused.
+const MOST_UNITS: usize = 65_536;
+
+/// How a run ended, and the cycles of its sampled units.
+#[derive(Debug, Drop)]
+pub struct Measured {
+    pub outcome: Outcome,
+    /// One number for each sampled unit in the order of the run, up to the most that are kept.
+    pub cycles: Vec<u32>,
+}
 
 /// How a part of a run ended.
 #[derive(Clone, Copy, Debug)]
@@ -18,4 +41,82 @@ pub struct Part {
     /// Their cycles.
     pub cycles: u32,
     pub end: PartEnd,
+}
+
+/// Runs the program for at most the design's budget, and takes the cycles of its sampled units on the way.
+/// It keeps no more of the run than one number a unit.
+pub fn measure(
+    alloc: Global,
+    whole: &mut Whole,
+    design: &Design,
+    latencies: &Latencies,
+) -> Result<Measured, NoMemory>
+    requires running { whole.old.state.exit ≡ None }
+    requires design { IsUsable design.now }
+    requires latencies { AreInRange latencies.now }
+    ensures outcome { IfOk result (λ measured.
+        measured.outcome ≡ outcome_of whole.old.state design.now.budget) }
+    ensures units { IfOk result (λ measured. (code len : ℕ) → measured.outcome ≡ Exited code len →
+        AreMeasured latencies.now whole.old.state design.now len measured.cycles.items) }
+{
+    let mut cycles = Vec::new(alloc);
+    let mut next = u64::from(design.offset);
+    let size = u64::from(design.unit);
+    for unit in 0..design.budget.div_ceil(size) {
+        let begin = unit * size;
+        let len = size.min(design.budget - begin) as u32;
+        let part = run_part(whole, len, latencies)?;
+        if part.ran == design.unit && unit == next && cycles.len() < MOST_UNITS {
+            cycles.push(part.cycles)?;
+            next += u64::from(design.every);
+        }
+        let ran = begin + u64::from(part.ran);
+        let outcome = match part.end {
+            PartEnd::Full => continue,
+            PartEnd::Exited(code) => Outcome::Exited { code, length: ran },
+            PartEnd::Trapped(trap) => Outcome::Trapped { at: ran, trap },
+        };
+        return Ok(Measured { outcome, cycles });
+    }
+    Ok(Measured {
+        outcome: Outcome::Spent,
+        cycles,
+    })
+}
+
+// Runs at most `len` instructions.
+fn run_part(whole: &mut Whole, len: u32, latencies: &Latencies) -> Result<Part, NoMemory>
+    requires running { whole.old.state.exit ≡ None }
+    requires len { len ≤ 10000 }
+    requires latencies { AreInRange latencies.now }
+    ensures part { (start : Machine) (at : ℕ) → IsUnderWay start at whole.old →
+        IfOk result (IsPart latencies.now start at len whole.new) }
+{
+    let mut cycles = 0;
+    for done in 0..len {
+        let event = match whole.advance() {
+            Ok(event) => event,
+            Err(MachineFault::Trap(trap)) => {
+                return Ok(Part {
+                    ran: done,
+                    cycles,
+                    end: PartEnd::Trapped(trap),
+                });
+            }
+            Err(MachineFault::NoMemory) => return Err(NoMemory),
+        };
+        cycles += latency_of(latencies, event.class);
+        if let Some(code) = whole.core().exit {
+            return Ok(Part {
+                ran: done + 1,
+                cycles,
+                end: PartEnd::Exited(code),
+            });
+        }
+    }
+    Ok(Part {
+        ran: len,
+        cycles,
+        end: PartEnd::Full,
+    })
 }

@@ -1,0 +1,109 @@
+ghost use Rattle.std.specs.Prelude.{◌≡◌, ◌<◌, ℕ, List, length, map, string_bytes, take, IfErr, IfSome, IsErr, IsOk};
+ghost use Rattle.smarts_io.specs.Bytes.{Gives, Takes};
+ghost use Rattle.smarts_io.specs.Causes.{Rose};
+ghost use Rattle.smarts_text.specs.Meaning.{meaning};
+ghost use Rattle.smarts_text.specs.Texts.{fault_line};
+ghost use Rattle.turbosmarts.specs.Answer.{answer, taken_in};
+ghost use Rattle.turbosmarts.specs.Ends.{EndsAs, IsAllRead, IsBadWords, IsDetermined, IsFault, told_of};
+ghost use Rattle.turbosmarts.specs.Tells.{TakesFront};
+
+use crate::command::do_command;
+use crate::ending::End;
+use crate::telling::tell;
+use smarts_base::Refusal;
+use smarts_io::{Sink, Source};
+use smarts_text::{Status, read_words};
+use std::alloc::Global;
+
+/// All that the program does: it takes the words of the command line, without the program's name, reads its
+/// input from the source, writes its answer to the sink, and tells a person about it by the lines.
+///
+/// The answer to words and input is one function of both, whatever the source and the sinks are like. For
+/// `sample` it is the report of one thread that keeps the whole machine, takes the cycles of each unit from the
+/// trace of its window, and folds the units in the shuffled order until the test of confidence first holds or
+/// none is left.
+pub fn turbosmarts<S: Source, K: Sink, F: Sink>(
+    alloc: Global,
+    words: &[String],
+    source: &mut S,
+    sink: &mut K,
+    lines: &mut F,
+) -> Status
+    // An end that isn't due to the source, the sink or memory is the answer's, and so is what was written.
+    ensures status { IsDetermined result → IfSome (S.rest source.old) (λ input.
+        result ≡ (answer (map string_bytes words.now) (taken_in input)).status) }
+    ensures written { IsDetermined result → IfSome (S.rest source.old) (λ input.
+        Takes (K.taken sink.old) (answer (map string_bytes words.now) (taken_in input)).bytes (K.taken sink.new)) }
+    ensures words { IfErr (meaning (map string_bytes words.now)) (λ fault.
+        (result ≡ Status.NoMemory → ⊥) → result ≡ Status.BadWords fault) }
+    ensures words_only { IsBadWords result → IsErr (meaning (map string_bytes words.now)) }
+
+    // A read fault comes only where the words are accepted and the source failed in this call.
+    ensures read_accepted { result ≡ Status.ReadFault → IsOk (meaning (map string_bytes words.now)) }
+    ensures read_cause { result ≡ Status.ReadFault → Rose (S.faults source.old) (S.faults source.new) }
+    ensures read_nothing { result ≡ Status.ReadFault → K.taken sink.new ≡ K.taken sink.old }
+
+    // A write fault comes only where there was an answer to write and the sink failed in this call. The sink
+    // then has a front of the answer.
+    ensures write_cause { (taken : ℕ) → result ≡ Status.WriteFault taken →
+        Rose (K.faults sink.old) (K.faults sink.new) }
+    ensures write_done { (taken : ℕ) → result ≡ Status.WriteFault taken → IfSome (S.rest source.old) (λ input.
+        (answer (map string_bytes words.now) (taken_in input)).status ≡ Status.Done) }
+    ensures write_front { (taken : ℕ) → result ≡ Status.WriteFault taken → IfSome (S.rest source.old) (λ input.
+        Takes (K.taken sink.old) (take taken (answer (map string_bytes words.now) (taken_in input)).bytes)
+        (K.taken sink.new)) }
+    ensures write_short { (taken : ℕ) → result ≡ Status.WriteFault taken → IfSome (S.rest source.old) (λ input.
+        taken < length (answer (map string_bytes words.now) (taken_in input)).bytes) }
+
+    // For want of memory nothing was written.
+    ensures no_memory { result ≡ Status.NoMemory → K.taken sink.new ≡ K.taken sink.old }
+
+    // The whole input was read, up to one byte past the limit, or for refused words none of it.
+    ensures all_read { IsAllRead result → IfSome (S.rest source.old) (λ input.
+        Gives (S.rest source.old) (taken_in input) (S.rest source.new)) }
+    ensures unread { IsBadWords result → S.rest source.new ≡ S.rest source.old }
+    ensures unread_count { IsBadWords result → S.faults source.new ≡ S.faults source.old }
+
+    // The lines took the text of the fault, or of the exit of the program that was run: all of it, unless they
+    // failed in this call.
+    ensures lines_fault { IsFault result → TakesFront (fault_line result)
+        (F.taken lines.old) (F.taken lines.new) (F.faults lines.old) (F.faults lines.new) }
+    ensures lines_done { result ≡ Status.Done → IfSome (S.rest source.old) (λ input.
+        TakesFront (answer (map string_bytes words.now) (taken_in input)).lines
+        (F.taken lines.old) (F.taken lines.new) (F.faults lines.old) (F.faults lines.new)) }
+{
+    let end = end_of(alloc, words, source, sink);
+    let mut text = [0; 64];
+    let length = end.text(&mut text);
+    tell(lines, &text[..length]);
+    end.status
+}
+
+fn end_of<S: Source, K: Sink>(alloc: Global, words: &[String], source: &mut S, sink: &mut K) -> End
+    ensures ends { EndsAs (answer (map string_bytes words.now))
+        (record {
+          before = S.rest source.old;
+          after = S.rest source.new;
+          faults_before = S.faults source.old;
+          faults_after = S.faults source.new;
+        })
+        (record {
+          before = K.taken sink.old;
+          after = K.taken sink.new;
+          faults_before = K.faults sink.old;
+          faults_after = K.faults sink.new;
+        })
+        result.status (told_of result.status result.exit) }
+    ensures words { IfErr (meaning (map string_bytes words.now)) (λ fault.
+        (result.status ≡ Status.NoMemory → ⊥) → result.status ≡ Status.BadWords fault) }
+    ensures words_only { IsBadWords result.status → IsErr (meaning (map string_bytes words.now)) }
+    ensures read_accepted { result.status ≡ Status.ReadFault → IsOk (meaning (map string_bytes words.now)) }
+    ensures unread { IsBadWords result.status → S.rest source.new ≡ S.rest source.old }
+    ensures unread_count { IsBadWords result.status → S.faults source.new ≡ S.faults source.old }
+{
+    match read_words(words) {
+        Ok(command) => do_command(alloc, &command, source, sink),
+        Err(Refusal::Fault(fault)) => End::of(Status::BadWords(fault)),
+        Err(Refusal::NoMemory) => End::of(Status::NoMemory),
+    }
+}
