@@ -6,5 +6,4 @@ pub mod Report
 pub mod Running
 pub mod Sampling
 pub mod Status
-pub mod Visits
 pub mod Words

@@ -4,7 +4,6 @@
 
 mod answering;
 mod command;
-mod folding;
 mod image;
 mod machine;
 mod report;
