@@ -3,6 +3,7 @@ pub mod Arithmetic
 pub mod Bytes
 pub mod Events
 pub mod Machine
+pub mod Memories
 pub mod Memory
 pub mod Next
 pub mod Steps

@@ -1,3 +1,4 @@
+ghost use Rattle.rv_exec.specs.Memory.{PassesWhereMapped};
 ghost use Rattle.rv_exec.specs.Steps.{EveryStep};
 
 /// A law that proofs above this crate cite: what every step that is done has in common, whatever
@@ -7,4 +8,11 @@ ghost use Rattle.rv_exec.specs.Steps.{EveryStep};
 #[tactic(auto, using(crate::proofs::Steps::stepped))]
 pub fn every_step()
     ensures { EveryStep }
+{}
+
+/// A law that proofs above this crate cite: over the memory of a whole program, a write buffer
+/// passes exactly where each of its bytes is mapped.
+#[tactic(auto, using(crate::proofs::Buffers::passes_where_mapped))]
+pub fn mapped_buffers()
+    ensures { PassesWhereMapped }
 {}

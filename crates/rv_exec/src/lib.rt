@@ -15,9 +15,11 @@ mod laws;
 mod memory;
 mod state;
 mod stepping;
+#[cfg(test)]
+mod tests;
 
 pub use event::{Buffer, DataRef, Event, Flow, Trap, TrapKind};
-pub use laws::every_step;
+pub use laws::{every_step, mapped_buffers};
 pub use memory::Memory;
 pub use state::Core;
 pub use stepping::step;

@@ -5,49 +5,49 @@ use crate::{Class, Inst, class_of, decode, dest, encode, sources};
 #[test]
 fn words_of_every_instruction(rt: HostRuntime) {
     let cases = [
-        (0x000000b7, Inst::Lui { rd: 1, imm: 0 }),
+        (0x0000_00b7, Inst::Lui { rd: 1, imm: 0 }),
         (
-            0x80000fb7,
+            0x8000_0fb7,
             Inst::Lui {
                 rd: 31,
                 imm: -2147483648,
             },
         ),
         (
-            0x7ffff537,
+            0x7fff_f537,
             Inst::Lui {
                 rd: 10,
                 imm: 2147479552,
             },
         ),
-        (0xfffff037, Inst::Lui { rd: 0, imm: -4096 }),
-        (0x00001297, Inst::Auipc { rd: 5, imm: 4096 }),
+        (0xffff_f037, Inst::Lui { rd: 0, imm: -4096 }),
+        (0x0000_1297, Inst::Auipc { rd: 5, imm: 4096 }),
         (
-            0x80000897,
+            0x8000_0897,
             Inst::Auipc {
                 rd: 17,
                 imm: -2147483648,
             },
         ),
         (
-            0x800000ef,
+            0x8000_00ef,
             Inst::Jal {
                 rd: 1,
                 imm: -1048576,
             },
         ),
         (
-            0x7ffff06f,
+            0x7fff_f06f,
             Inst::Jal {
                 rd: 0,
                 imm: 1048574,
             },
         ),
-        (0x001002ef, Inst::Jal { rd: 5, imm: 2048 }),
-        (0xffffffef, Inst::Jal { rd: 31, imm: -2 }),
-        (0x0000116f, Inst::Jal { rd: 2, imm: 4096 }),
+        (0x0010_02ef, Inst::Jal { rd: 5, imm: 2048 }),
+        (0xffff_ffef, Inst::Jal { rd: 31, imm: -2 }),
+        (0x0000_116f, Inst::Jal { rd: 2, imm: 4096 }),
         (
-            0x00008067,
+            0x0000_8067,
             Inst::Jalr {
                 rd: 0,
                 rs1: 1,
@@ -55,7 +55,7 @@ fn words_of_every_instruction(rt: HostRuntime) {
             },
         ),
         (
-            0x800280e7,
+            0x8002_80e7,
             Inst::Jalr {
                 rd: 1,
                 rs1: 5,
@@ -63,7 +63,7 @@ fn words_of_every_instruction(rt: HostRuntime) {
             },
         ),
         (
-            0x7fff8fe7,
+            0x7fff_8fe7,
             Inst::Jalr {
                 rd: 31,
                 rs1: 31,
@@ -71,7 +71,7 @@ fn words_of_every_instruction(rt: HostRuntime) {
             },
         ),
         (
-            0x80000063,
+            0x8000_0063,
             Inst::Beq {
                 rs1: 0,
                 rs2: 0,
@@ -79,7 +79,7 @@ fn words_of_every_instruction(rt: HostRuntime) {
             },
         ),
         (
-            0x7e1f8fe3,
+            0x7e1f_8fe3,
             Inst::Beq {
                 rs1: 31,
                 rs2: 1,
@@ -87,7 +87,7 @@ fn words_of_every_instruction(rt: HostRuntime) {
             },
         ),
         (
-            0x01f080e3,
+            0x01f0_80e3,
             Inst::Beq {
                 rs1: 1,
                 rs2: 31,
@@ -95,7 +95,7 @@ fn words_of_every_instruction(rt: HostRuntime) {
             },
         ),
         (
-            0xff010fe3,
+            0xff01_0fe3,
             Inst::Beq {
                 rs1: 2,
                 rs2: 16,
@@ -103,7 +103,7 @@ fn words_of_every_instruction(rt: HostRuntime) {
             },
         ),
         (
-            0xfe029ee3,
+            0xfe02_9ee3,
             Inst::Bne {
                 rs1: 5,
                 rs2: 0,
@@ -111,7 +111,7 @@ fn words_of_every_instruction(rt: HostRuntime) {
             },
         ),
         (
-            0x00941f63,
+            0x0094_1f63,
             Inst::Bne {
                 rs1: 8,
                 rs2: 9,
@@ -119,7 +119,7 @@ fn words_of_every_instruction(rt: HostRuntime) {
             },
         ),
         (
-            0x40b54063,
+            0x40b5_4063,
             Inst::Blt {
                 rs1: 10,
                 rs2: 11,
@@ -127,7 +127,7 @@ fn words_of_every_instruction(rt: HostRuntime) {
             },
         ),
         (
-            0x80d650e3,
+            0x80d6_50e3,
             Inst::Bge {
                 rs1: 12,
                 rs2: 13,
@@ -135,7 +135,7 @@ fn words_of_every_instruction(rt: HostRuntime) {
             },
         ),
         (
-            0x02f76063,
+            0x02f7_6063,
             Inst::Bltu {
                 rs1: 14,
                 rs2: 15,
@@ -143,7 +143,7 @@ fn words_of_every_instruction(rt: HostRuntime) {
             },
         ),
         (
-            0xbf1f7fe3,
+            0xbf1f_7fe3,
             Inst::Bgeu {
                 rs1: 30,
                 rs2: 17,
@@ -151,7 +151,7 @@ fn words_of_every_instruction(rt: HostRuntime) {
             },
         ),
         (
-            0x80010083,
+            0x8001_0083,
             Inst::Lb {
                 rd: 1,
                 rs1: 2,
@@ -159,7 +159,7 @@ fn words_of_every_instruction(rt: HostRuntime) {
             },
         ),
         (
-            0x7ff01f83,
+            0x7ff0_1f83,
             Inst::Lh {
                 rd: 31,
                 rs1: 0,
@@ -167,7 +167,7 @@ fn words_of_every_instruction(rt: HostRuntime) {
             },
         ),
         (
-            0xffcfa303,
+            0xffcf_a303,
             Inst::Lw {
                 rd: 6,
                 rs1: 31,
@@ -175,7 +175,7 @@ fn words_of_every_instruction(rt: HostRuntime) {
             },
         ),
         (
-            0x00012503,
+            0x0001_2503,
             Inst::Lw {
                 rd: 10,
                 rs1: 2,
@@ -183,7 +183,7 @@ fn words_of_every_instruction(rt: HostRuntime) {
             },
         ),
         (
-            0x00144803,
+            0x0014_4803,
             Inst::Lbu {
                 rd: 16,
                 rs1: 8,
@@ -191,7 +191,7 @@ fn words_of_every_instruction(rt: HostRuntime) {
             },
         ),
         (
-            0xfff7d003,
+            0xfff7_d003,
             Inst::Lhu {
                 rd: 0,
                 rs1: 15,
@@ -199,7 +199,7 @@ fn words_of_every_instruction(rt: HostRuntime) {
             },
         ),
         (
-            0x80110023,
+            0x8011_0023,
             Inst::Sb {
                 rs1: 2,
                 rs2: 1,
@@ -207,7 +207,7 @@ fn words_of_every_instruction(rt: HostRuntime) {
             },
         ),
         (
-            0x7ff01fa3,
+            0x7ff0_1fa3,
             Inst::Sh {
                 rs1: 0,
                 rs2: 31,
@@ -215,7 +215,7 @@ fn words_of_every_instruction(rt: HostRuntime) {
             },
         ),
         (
-            0xfe6fae23,
+            0xfe6f_ae23,
             Inst::Sw {
                 rs1: 31,
                 rs2: 6,
@@ -223,7 +223,7 @@ fn words_of_every_instruction(rt: HostRuntime) {
             },
         ),
         (
-            0x02a12023,
+            0x02a1_2023,
             Inst::Sw {
                 rs1: 2,
                 rs2: 10,
@@ -231,7 +231,7 @@ fn words_of_every_instruction(rt: HostRuntime) {
             },
         ),
         (
-            0x01082fa3,
+            0x0108_2fa3,
             Inst::Sw {
                 rs1: 16,
                 rs2: 16,
@@ -239,7 +239,7 @@ fn words_of_every_instruction(rt: HostRuntime) {
             },
         ),
         (
-            0x00000013,
+            0x0000_0013,
             Inst::Addi {
                 rd: 0,
                 rs1: 0,
@@ -247,7 +247,7 @@ fn words_of_every_instruction(rt: HostRuntime) {
             },
         ),
         (
-            0x05d00893,
+            0x05d0_0893,
             Inst::Addi {
                 rd: 17,
                 rs1: 0,
@@ -255,7 +255,7 @@ fn words_of_every_instruction(rt: HostRuntime) {
             },
         ),
         (
-            0x80008f93,
+            0x8000_8f93,
             Inst::Addi {
                 rd: 31,
                 rs1: 1,
@@ -263,7 +263,7 @@ fn words_of_every_instruction(rt: HostRuntime) {
             },
         ),
         (
-            0x7fffa093,
+            0x7fff_a093,
             Inst::Slti {
                 rd: 1,
                 rs1: 31,
@@ -271,7 +271,7 @@ fn words_of_every_instruction(rt: HostRuntime) {
             },
         ),
         (
-            0xfff1b113,
+            0xfff1_b113,
             Inst::Sltiu {
                 rd: 2,
                 rs1: 3,
@@ -279,7 +279,7 @@ fn words_of_every_instruction(rt: HostRuntime) {
             },
         ),
         (
-            0xfff2c213,
+            0xfff2_c213,
             Inst::Xori {
                 rd: 4,
                 rs1: 5,
@@ -287,7 +287,7 @@ fn words_of_every_instruction(rt: HostRuntime) {
             },
         ),
         (
-            0x4003e313,
+            0x4003_e313,
             Inst::Ori {
                 rd: 6,
                 rs1: 7,
@@ -295,7 +295,7 @@ fn words_of_every_instruction(rt: HostRuntime) {
             },
         ),
         (
-            0x00f4f413,
+            0x00f4_f413,
             Inst::Andi {
                 rd: 8,
                 rs1: 9,
@@ -303,7 +303,7 @@ fn words_of_every_instruction(rt: HostRuntime) {
             },
         ),
         (
-            0x00011093,
+            0x0001_1093,
             Inst::Slli {
                 rd: 1,
                 rs1: 2,
@@ -311,7 +311,7 @@ fn words_of_every_instruction(rt: HostRuntime) {
             },
         ),
         (
-            0x01f21193,
+            0x01f2_1193,
             Inst::Slli {
                 rd: 3,
                 rs1: 4,
@@ -319,7 +319,7 @@ fn words_of_every_instruction(rt: HostRuntime) {
             },
         ),
         (
-            0x00135293,
+            0x0013_5293,
             Inst::Srli {
                 rd: 5,
                 rs1: 6,
@@ -327,7 +327,7 @@ fn words_of_every_instruction(rt: HostRuntime) {
             },
         ),
         (
-            0x01ff5f93,
+            0x01ff_5f93,
             Inst::Srli {
                 rd: 31,
                 rs1: 30,
@@ -335,7 +335,7 @@ fn words_of_every_instruction(rt: HostRuntime) {
             },
         ),
         (
-            0x41f45393,
+            0x41f4_5393,
             Inst::Srai {
                 rd: 7,
                 rs1: 8,
@@ -343,7 +343,7 @@ fn words_of_every_instruction(rt: HostRuntime) {
             },
         ),
         (
-            0x41055493,
+            0x4105_5493,
             Inst::Srai {
                 rd: 9,
                 rs1: 10,
@@ -351,7 +351,7 @@ fn words_of_every_instruction(rt: HostRuntime) {
             },
         ),
         (
-            0x40065593,
+            0x4006_5593,
             Inst::Srai {
                 rd: 11,
                 rs1: 12,
@@ -359,7 +359,7 @@ fn words_of_every_instruction(rt: HostRuntime) {
             },
         ),
         (
-            0x010f80b3,
+            0x010f_80b3,
             Inst::Add {
                 rd: 1,
                 rs1: 31,
@@ -367,7 +367,7 @@ fn words_of_every_instruction(rt: HostRuntime) {
             },
         ),
         (
-            0x41b30333,
+            0x41b3_0333,
             Inst::Sub {
                 rd: 6,
                 rs1: 6,
@@ -375,7 +375,7 @@ fn words_of_every_instruction(rt: HostRuntime) {
             },
         ),
         (
-            0x006695b3,
+            0x0066_95b3,
             Inst::Sll {
                 rd: 11,
                 rs1: 13,
@@ -383,7 +383,7 @@ fn words_of_every_instruction(rt: HostRuntime) {
             },
         ),
         (
-            0x011a2833,
+            0x011a_2833,
             Inst::Slt {
                 rd: 16,
                 rs1: 20,
@@ -391,7 +391,7 @@ fn words_of_every_instruction(rt: HostRuntime) {
             },
         ),
         (
-            0x01cdbab3,
+            0x01cd_bab3,
             Inst::Sltu {
                 rd: 21,
                 rs1: 27,
@@ -399,7 +399,7 @@ fn words_of_every_instruction(rt: HostRuntime) {
             },
         ),
         (
-            0x00714d33,
+            0x0071_4d33,
             Inst::Xor {
                 rd: 26,
                 rs1: 2,
@@ -407,7 +407,7 @@ fn words_of_every_instruction(rt: HostRuntime) {
             },
         ),
         (
-            0x0124dfb3,
+            0x0124_dfb3,
             Inst::Srl {
                 rd: 31,
                 rs1: 9,
@@ -415,7 +415,7 @@ fn words_of_every_instruction(rt: HostRuntime) {
             },
         ),
         (
-            0x41d85233,
+            0x41d8_5233,
             Inst::Sra {
                 rd: 4,
                 rs1: 16,
@@ -423,7 +423,7 @@ fn words_of_every_instruction(rt: HostRuntime) {
             },
         ),
         (
-            0x008be4b3,
+            0x008b_e4b3,
             Inst::Or {
                 rd: 9,
                 rs1: 23,
@@ -431,7 +431,7 @@ fn words_of_every_instruction(rt: HostRuntime) {
             },
         ),
         (
-            0x013f7733,
+            0x013f_7733,
             Inst::And {
                 rd: 14,
                 rs1: 30,
@@ -439,7 +439,7 @@ fn words_of_every_instruction(rt: HostRuntime) {
             },
         ),
         (
-            0x03e289b3,
+            0x03e2_89b3,
             Inst::Mul {
                 rd: 19,
                 rs1: 5,
@@ -447,7 +447,7 @@ fn words_of_every_instruction(rt: HostRuntime) {
             },
         ),
         (
-            0x02961c33,
+            0x0296_1c33,
             Inst::Mulh {
                 rd: 24,
                 rs1: 12,
@@ -455,7 +455,7 @@ fn words_of_every_instruction(rt: HostRuntime) {
             },
         ),
         (
-            0x0349aeb3,
+            0x0349_aeb3,
             Inst::Mulhsu {
                 rd: 29,
                 rs1: 19,
@@ -463,7 +463,7 @@ fn words_of_every_instruction(rt: HostRuntime) {
             },
         ),
         (
-            0x03fd3133,
+            0x03fd_3133,
             Inst::Mulhu {
                 rd: 2,
                 rs1: 26,
@@ -471,7 +471,7 @@ fn words_of_every_instruction(rt: HostRuntime) {
             },
         ),
         (
-            0x02a0c3b3,
+            0x02a0_c3b3,
             Inst::Div {
                 rd: 7,
                 rs1: 1,
@@ -479,7 +479,7 @@ fn words_of_every_instruction(rt: HostRuntime) {
             },
         ),
         (
-            0x03545633,
+            0x0354_5633,
             Inst::Divu {
                 rd: 12,
                 rs1: 8,
@@ -487,7 +487,7 @@ fn words_of_every_instruction(rt: HostRuntime) {
             },
         ),
         (
-            0x0207e8b3,
+            0x0207_e8b3,
             Inst::Rem {
                 rd: 17,
                 rs1: 15,
@@ -495,19 +495,19 @@ fn words_of_every_instruction(rt: HostRuntime) {
             },
         ),
         (
-            0x02bb7b33,
+            0x02bb_7b33,
             Inst::Remu {
                 rd: 22,
                 rs1: 22,
                 rs2: 11,
             },
         ),
-        (0x0ff0000f, Inst::Fence { rest: 0x0ff00000 }),
-        (0x0310000f, Inst::Fence { rest: 0x03100000 }),
-        (0x8330000f, Inst::Fence { rest: 0x83300000 }),
-        (0x0000100f, Inst::FenceI { rest: 0x00000000 }),
-        (0x00000073, Inst::Ecall),
-        (0x00100073, Inst::Ebreak),
+        (0x0ff0_000f, Inst::Fence { rest: 0x0ff0_0000 }),
+        (0x0310_000f, Inst::Fence { rest: 0x0310_0000 }),
+        (0x8330_000f, Inst::Fence { rest: 0x8330_0000 }),
+        (0x0000_100f, Inst::FenceI { rest: 0x0000_0000 }),
+        (0x0000_0073, Inst::Ecall),
+        (0x0010_0073, Inst::Ebreak),
     ];
     for (word, inst) in cases {
         let decoded = decode(word);

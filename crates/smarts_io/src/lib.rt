@@ -15,7 +15,7 @@ mod sure;
 mod tests;
 mod writing;
 
-pub use adapters::{InputSource, OutputSink};
+pub use adapters::{ErrorSink, InputSource, OutputSink};
 pub use memory_sink::MemorySink;
 pub use memory_source::MemorySource;
 pub use reading::{ReadError, read_all};
