@@ -52,3 +52,10 @@ pub record IsUnderWay (start : Machine) (at : ℕ) (now : Machine) : Type 0 wher
   pub machine : now ≡ machine_after start at
   pub running : now.state.exit ≡ None
   pub goes_on : (k : ℕ) → k < at → is_last (step_at start.state k) ≡ false
+
+-- memory for the output was wanted by an instruction below the budget; the machine stands before it
+pub record StandsBefore (start : Machine) (budget : ℕ) (now : Machine) : Type 0 where
+  pub at : ℕ
+  pub below : at < budget
+  pub under_way : IsUnderWay start at now
+  pub wants : WantsMemory now

@@ -1,14 +1,16 @@
-ghost use Rattle.std.specs.Prelude.{◌≡◌, None, IfOk};
+ghost use Rattle.std.specs.Prelude.{◌≡◌, None, IfOk, OnOk, OnErr};
 ghost use Rattle.elf_image.specs.Image.{IsImage};
 ghost use Rattle.rv_exec.specs.Events.{IsWellFormed};
 ghost use Rattle.rv_exec.specs.Machine.{state};
-ghost use Rattle.rv_machine.specs.Machine.{started, Advances};
+ghost use Rattle.rv_exec.specs.Memory.{word_at};
+ghost use Rattle.rv_machine.specs.Machine.{started, machine_after, Advances, StandsBefore};
+ghost use Rattle.rv_machine.specs.Running.{outcome_of};
 
 use crate::blocks::Blocks;
-use crate::outcome::MachineFault;
+use crate::outcome::{MachineFault, Outcome};
 use crate::output::append;
 use elf_image::Image;
-use rv_exec::{Core, Event, step};
+use rv_exec::{Core, Event, Memory, step};
 use smarts_base::NoMemory;
 use std::alloc::Global;
 use std::marker::Model;
@@ -18,6 +20,9 @@ use std::marker::Model;
 const STACK_POINTER: usize = 2;
 
 const STACK_START: u32 = 0x7FFF_F000;
+
+/// The register that a call answers in.
+const ANSWER: usize = 10;
 
 /// A machine with all its memory: that of the program with 64 MiB of heap behind it, and 1 MiB of
 /// stack below 0x80000000.
@@ -98,7 +103,51 @@ impl Whole {
             }
         }
     }
-}
 
-/// The register that a call answers in.
-const ANSWER: usize = 10;
+    /// Runs the program to its end, for at most so many instructions.
+    pub fn run(&mut self, budget: u64) -> Result<Outcome, NoMemory>
+        requires { self.old.state.exit ≡ None }
+        ensures outcome { IfOk result (λ outcome. outcome ≡ outcome_of self.old.state budget) }
+        ensures machine { OnOk result (self.new ≡ machine_after self.old budget) }
+        ensures no_memory { OnErr result (StandsBefore self.old budget self.new) }
+    {
+        for at in 0..budget {
+            match self.advance() {
+                Ok(_) => {}
+                Err(MachineFault::Trap(trap)) => return Ok(Outcome::Trapped { at, trap }),
+                Err(MachineFault::NoMemory) => return Err(NoMemory),
+            }
+            match self.core.exit {
+                Some(code) => {
+                    return Ok(Outcome::Exited {
+                        code,
+                        length: at + 1,
+                    });
+                }
+                None => {}
+            }
+        }
+        Ok(Outcome::Spent)
+    }
+
+    /// The registers.
+    pub fn core(&self) -> &Core
+        ensures { state result.now self.now.state.words self.now.state.buffers ≡ self.now.state }
+    {
+        &self.core
+    }
+
+    /// The word at an address.
+    pub fn word(&self, addr: u32) -> Option<u32>
+        ensures { result ≡ word_at self.now.state.words addr }
+    {
+        self.memory.load_word(addr)
+    }
+
+    /// What the program has written to descriptors 1 and 2 so far. Empty where it is not kept.
+    pub fn output(&self) -> &[u8]
+        ensures { result.now ≡ self.now.output }
+    {
+        &self.output
+    }
+}
