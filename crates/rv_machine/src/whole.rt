@@ -150,4 +150,11 @@ impl Whole {
     {
         &self.output
     }
+
+    /// The output, of a machine that is no longer needed.
+    pub fn into_output(self) -> Vec<u8>
+        ensures { result.items ≡ self.output }
+    {
+        self.output
+    }
 }

@@ -1,3 +1,5 @@
 pub mod Folds
 pub mod Measures
+pub mod PartSteps
 pub mod Tellings
+pub mod Whiles

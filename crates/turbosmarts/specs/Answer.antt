@@ -81,7 +81,7 @@ unfoldable pub run_of : ℕ → List ℕ → Result Written InputFault
 run_of budget input = do
   image ← image_or_fault (image_of input)
   exit ← exit_or_fault budget (outcome_of (start_of image) budget)
-  Ok (record { bytes = output_after (start_of image) exit.length; lines = exit_line exit.code exit.length })
+  Ok (record { bytes = output_after (start_of image) budget; lines = exit_line exit.code exit.length })
 
 abbrev pub written_by : Command → List ℕ → Result Written InputFault
 written_by (Sample design ruu mul div l1 test) input =

@@ -1,5 +1,5 @@
 -- Parts of a run, and what is measured of them.
-use Rattle.std.specs.Prelude.{◌≡◌, ◌<◌, ◌≤◌, ◌+◌, ◌*◌, ℕ, List, length, map, slice_index, sum_by}
+use Rattle.std.specs.Prelude.{◌≡◌, ◌==◌, if◌then◌else◌, ◌<◌, ◌≤◌, ◌+◌, ◌*◌, ℕ, List, length, map, slice_index, sum_by}
 use Rattle.std.specs.List.{range_with_len}
 use Rattle.confidence.specs.Sums.{IsCycles}
 use Rattle.rv_exec.specs.declared.event.Trap.{Trap}
@@ -35,7 +35,8 @@ EndsPart start at len ran now ends.Full = (ran ≡ len) × IsUnderWay start (at 
 EndsPart start at len ran now (ends.Exited code) =
     (budget : ℕ) → at + ran ≤ budget → outcome_of start.state budget ≡ Exited code (at + ran)
 EndsPart start at len ran now (ends.Trapped trap) =
-    (budget : ℕ) → at + ran < budget → outcome_of start.state budget ≡ Trapped (at + ran) trap
+    (ran < len)
+    × ((budget : ℕ) → at + ran < budget → outcome_of start.state budget ≡ Trapped (at + ran) trap)
 
 -- what came of a part of at most so many instructions, that began at a place
 pub record IsPart (latencies : Latencies) (start : Machine) (at len : ℕ) (now : Machine) (part : Part) : Type 0 where
@@ -50,6 +51,7 @@ pub record IsPart (latencies : Latencies) (start : Machine) (at len : ℕ) (now 
 pub record IsMeasuring (latencies : Latencies) (start : State) (design : Design) (unit next : ℕ) (cycles : List ℕ) : Type 0 where
   pub next_is : next ≡ sampled_unit design (length cycles)
   pub few : length cycles ≤ 65536
+  pub small : next ≤ 1_000_000 * (length cycles + 1)
   pub ahead : length cycles < 65536 → unit ≤ next
   pub units : (p : ℕ) → p < length cycles
       → slice_index cycles p ≡ unit_cycles latencies start design (sampled_unit design p)
@@ -61,3 +63,7 @@ pub record AreMeasured (latencies : Latencies) (start : State) (design : Design)
   pub units : (p : ℕ) → p < length cycles
       → slice_index cycles p ≡ unit_cycles latencies start design (sampled_unit design p)
   pub valid : (p : ℕ) → p < length cycles → IsCycles (slice_index cycles p)
+
+-- how many units have ended after a part of one of which so many instructions ran
+abbrev pub units_ended : ℕ → ℕ → ℕ → ℕ
+units_ended size unit ran = if ran == size then unit + 1 else unit

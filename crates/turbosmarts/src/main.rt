@@ -9,6 +9,7 @@ mod fault;
 mod folding;
 mod latency;
 mod measuring;
+mod meter;
 mod telling;
 mod top;
 

@@ -6,14 +6,12 @@ ghost use Rattle.sample_design.specs.Design.{IsUsable};
 ghost use Rattle.turbosmarts.specs.Parts.{AreInRange, AreMeasured, IsPart};
 
 use crate::latency::{Latencies, latency_of};
+use crate::meter::Meter;
 use rv_exec::Trap;
 use rv_machine::{MachineFault, Outcome, Whole};
 use sample_design::Design;
 use smarts_base::NoMemory;
 use std::alloc::Global;
-
-/// The most units that are kept: a sample of more is refused.
-const MOST_UNITS: usize = 65_536;
 
 /// How a run ended, and the cycles of its sampled units.
 #[derive(Debug, Drop)]
@@ -59,28 +57,33 @@ pub fn measure(
     ensures units { IfOk result (λ measured. (code len : ℕ) → measured.outcome ≡ Exited code len →
         AreMeasured latencies.now whole.old.state design.now len measured.cycles.items) }
 {
-    let mut cycles = Vec::new(alloc);
-    let mut next = u64::from(design.offset);
+    let mut meter = Meter::new(alloc, design);
     let size = u64::from(design.unit);
     for unit in 0..design.budget.div_ceil(size) {
         let begin = unit * size;
         let len = size.min(design.budget - begin) as u32;
         let part = run_part(whole, len, latencies)?;
-        if part.ran == design.unit && unit == next && cycles.len() < MOST_UNITS {
-            cycles.push(part.cycles)?;
-            next += u64::from(design.every);
-        }
+        meter.take(design, unit, &part)?;
         let ran = begin + u64::from(part.ran);
-        let outcome = match part.end {
-            PartEnd::Full => continue,
-            PartEnd::Exited(code) => Outcome::Exited { code, length: ran },
-            PartEnd::Trapped(trap) => Outcome::Trapped { at: ran, trap },
-        };
-        return Ok(Measured { outcome, cycles });
+        match part.end {
+            PartEnd::Full => {}
+            PartEnd::Exited(code) => {
+                return Ok(Measured {
+                    outcome: Outcome::Exited { code, length: ran },
+                    cycles: meter.into_cycles(),
+                });
+            }
+            PartEnd::Trapped(trap) => {
+                return Ok(Measured {
+                    outcome: Outcome::Trapped { at: ran, trap },
+                    cycles: meter.into_cycles(),
+                });
+            }
+        }
     }
     Ok(Measured {
         outcome: Outcome::Spent,
-        cycles,
+        cycles: meter.into_cycles(),
     })
 }
 
