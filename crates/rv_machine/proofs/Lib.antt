@@ -1,3 +1,4 @@
+pub mod Ends
 pub mod Filled
 pub mod Finds
 pub mod Places

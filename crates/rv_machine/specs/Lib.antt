@@ -5,3 +5,4 @@ pub mod Output
 pub mod Running
 pub mod Start
 pub mod View
+pub mod Laws

@@ -3,9 +3,11 @@
 #![tactic(auto)]
 
 mod blocks;
+mod laws;
 mod outcome;
 mod output;
 mod whole;
 
+pub use laws::endings;
 pub use outcome::{MachineFault, Outcome};
 pub use whole::Whole;
