@@ -1,5 +1,5 @@
 -- The one-line texts: on a fault, and on the exit of a program that was run.
-use Rattle.std.specs.Prelude.{◌++◌, ◌/◌, ◌%◌, ◌^◌, [], ◌∷◌, ℕ, zero, suc, List, codes, false}
+use Rattle.std.specs.Prelude.{◌≡◌, ◌≤◌, length, drop, ◌++◌, ◌/◌, ◌%◌, ◌^◌, [], ◌∷◌, ℕ, zero, suc, List, codes, false}
 use Rattle.std.specs.Fmt.{decimal, digit_glyph}
 use Rattle.smarts_text.specs.declared.status.Status.{Status}
 use Rattle.smarts_text.specs.declared.status.Status.TheVariants as statuses
@@ -31,3 +31,10 @@ fault_line statuses.NoMemory = codes "no memory\n"
 unfoldable pub exit_line : ℕ → ℕ → List ℕ
 exit_line code length =
     codes "exit " ++ decimal code ++ codes " after " ++ decimal length ++ codes " instructions\n"
+
+-- the text stands at the front of the 64 bytes, those behind it are as they were, and its length is
+-- answered
+pub record HasWritten (text : List ℕ) (old : List ℕ) (new : List ℕ) (answer : ℕ) : Type 0 where
+  pub bytes : new ≡ text ++ drop (length text) old
+  pub len : answer ≡ length text
+  pub fits : answer ≤ 64

@@ -1,6 +1,6 @@
-ghost use Rattle.std.specs.Prelude.{◌≡◌, ◌+◌, ◌≤◌, ◌<◌, ◌%◌, ◌++◌, ◌∷◌, [], ℕ, List, length, take, drop, false};
+ghost use Rattle.std.specs.Prelude.{◌≡◌, ◌+◌, ◌≤◌, ◌<◌, ◌%◌, ◌++◌, ◌∷◌, [], ℕ, List, length, take, false};
 ghost use Rattle.std.specs.Fmt.{decimal, digit_glyph};
-ghost use Rattle.smarts_text.specs.Texts.{hex_digits};
+ghost use Rattle.smarts_text.specs.Texts.{HasWritten, hex_digits};
 
 use itoa::Buffer;
 use std::marker::Model;
@@ -108,9 +108,7 @@ impl Line {
 
     /// Writes the text to the front of `out`, and answers its length.
     pub fn write(&self, out: &mut [u8; 64]) -> usize
-        ensures len { result ≡ length self.now }
-        ensures fits { result ≤ 64 }
-        ensures bytes { out.new ≡ self.now ++ drop (length self.now) out.old }
+        ensures { HasWritten self.now out.old out.new result }
     {
         out[..self.len].copy_from_slice(&self.bytes[..self.len]);
         self.len

@@ -1,4 +1,4 @@
-ghost use Rattle.std.specs.Prelude.{◌≡◌, ◌<◌, false, None, Some, Err, Option, map, length, string_bytes, IfOk};
+ghost use Rattle.std.specs.Prelude.{◌≡◌, ◌<◌, ◌≤◌, ◌^◌, false, None, Some, Err, Option, map, length, string_bytes, IfOk};
 ghost use Rattle.smarts_base.specs.Outcome.{Answers};
 ghost use Rattle.smarts_text.specs.Asked.{is_ruu_in, number_in};
 ghost use Rattle.smarts_text.specs.Checks.{IsSound};
@@ -104,7 +104,8 @@ fn command(job: Job, words: &[String]) -> Command
 }
 
 fn refuse(kind: WordKind, place: usize) -> Result<Command, Refusal<WordFault>>
-    ensures { Answers (λ command. command) result (refused place kind) }
+    ensures answer { Answers (λ command. command) result (refused place kind) }
+    ensures memory { result ≡ Err Refusal.NoMemory → 2 ^ 32 ≤ place }
 {
     let Ok(place) = u32::try_from(place) else {
         return Err(Refusal::NoMemory);
@@ -112,10 +113,12 @@ fn refuse(kind: WordKind, place: usize) -> Result<Command, Refusal<WordFault>>
     Err(Refusal::Fault(WordFault { kind, place }))
 }
 
-/// What the words ask for, the program's name not among them. No memory is taken.
+/// What the words ask for, the program's name not among them. No memory is taken: `NoMemory` stands
+/// for a place that no `u32` can hold.
 #[tactic(auto, unfolding(crate::specs::Meaning::meaning))]
 pub fn read_words(words: &[String]) -> Result<Command, Refusal<WordFault>>
     ensures answer { Answers (λ command. command) result (meaning (map string_bytes words.now)) }
+    ensures memory { result ≡ Err Refusal.NoMemory → 2 ^ 32 ≤ length words.now }
     ensures sound { IfOk result IsSound }
 {
     let Some((first, words)) = words.split_first() else {

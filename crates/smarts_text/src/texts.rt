@@ -1,5 +1,5 @@
-ghost use Rattle.std.specs.Prelude.{◌≡◌, ◌≤◌, ◌++◌, length as List_length, drop};
-ghost use Rattle.smarts_text.specs.Texts.{exit_line, fault_line};
+ghost use Rattle.std.specs.Prelude.{◌≡◌, ◌≤◌, length};
+ghost use Rattle.smarts_text.specs.Texts.{HasWritten, exit_line, fault_line};
 
 use crate::line::Line;
 use crate::read::WordFault;
@@ -86,7 +86,7 @@ fn write_line(taken: u64) -> Line
 }
 
 fn fixed(text: &[u8]) -> Line
-    requires { List_length text.now ≤ 64 }
+    requires { length text.now ≤ 64 }
     ensures { result ≡ text.now }
 {
     let mut line = Line::new();
@@ -114,9 +114,7 @@ fn line_on(status: &Status) -> Line
 /// Writes the text on a fault to the front of `out`, and answers its length, which is 0 for
 /// `Done`. The rest of `out` stays.
 pub fn fault_text(status: &Status, out: &mut [u8; 64]) -> usize
-    ensures len { result ≡ List_length (fault_line status.now) }
-    ensures fits { result ≤ 64 }
-    ensures bytes { out.new ≡ fault_line status.now ++ drop (List_length (fault_line status.now)) out.old }
+    ensures { HasWritten (fault_line status.now) out.old out.new result }
 {
     line_on(status).write(out)
 }
@@ -137,9 +135,7 @@ fn line_on_exit(code: u32, length: u64) -> Line
 /// Writes the text on a program's exit after `length` instructions to the front of `out`, and answers
 /// its length. The rest of `out` stays.
 pub fn exit_text(code: u32, length: u64, out: &mut [u8; 64]) -> usize
-    ensures len { result ≡ List_length (exit_line code length) }
-    ensures fits { result ≤ 64 }
-    ensures bytes { out.new ≡ exit_line code length ++ drop (List_length (exit_line code length)) out.old }
+    ensures { HasWritten (exit_line code length) out.old out.new result }
 {
     line_on_exit(code, length).write(out)
 }
