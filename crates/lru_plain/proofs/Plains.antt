@@ -1,5 +1,5 @@
 -- The cache after a list of addresses.
-use Rattle.std.proofs.Common.{◌≡◌, ℕ, List, [], ◌∷◌, ◌++◌, fold, refl, sym, ◌∙◌, ◌+◌, ◌<◌, length, get_or, set, drop, replicate, add-one, ap}
+use Rattle.std.proofs.Common.{◌≡◌, ℕ, List, [], ◌∷◌, ◌++◌, refl, sym, ◌∙◌, ◌+◌, ◌<◌, length, get_or, set, drop, replicate, add-one, ap}
 use Rattle.std.proofs.lemmas.Grind.{fold-append, replicate_next}
 use Rattle.std.proofs.lemmas.List.{get_or_default, set_at, append_assoc, length-replicate}
 use Rattle.std.proofs.Math.Seq.{drop-cons}
@@ -24,7 +24,7 @@ emptied_more sets i h =
     let rest : drop i sets ≡ get_or sets i [] ∷ drop (i + 1) sets = rw (add-one, drop-cons sets i []) refl in
     rw (rest, replicate_next {X = List ℕ} i [])
     (set_at (replicate i []) (get_or sets i []) (drop (i + 1) sets) [] i (length-replicate i [])
-        ∙ sym (append_assoc (replicate i []) ([] ∷ []) (drop (i + 1) sets)))
+    ∙ sym (append_assoc (replicate i []) ([] ∷ []) (drop (i + 1) sets)))
 
 -- the lane that a block's home is, and the sets where it is touched
 pub lane_is :

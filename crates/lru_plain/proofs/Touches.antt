@@ -1,5 +1,5 @@
 -- Lists of blocks under a touch.
-use Rattle.std.proofs.Common.{◌≡◌, ℕ, ◌+◌, ◌-◌, ◌<◌, ◌≤◌, ◌==◌, Bool, true, false, List, [], ◌∷◌, ◌++◌, length, get_or, take, drop, set, zero, suc, refl, sym, ◌∙◌, ap, arith, inl, inr, if◌then◌else◌, eq-eqb, add-one}
+use Rattle.std.proofs.Common.{◌≡◌, ℕ, ◌+◌, ◌-◌, ◌<◌, ◌≤◌, List, [], ◌∷◌, ◌++◌, length, get_or, take, drop, set, zero, suc, refl, sym, ◌∙◌, ap, arith, inl, inr, eq-eqb, add-one}
 use Rattle.std.specs.List.{Contains, refill}
 use Rattle.std.proofs.lemmas.Bool.{cases_eq, ne_eqb}
 use Rattle.std.proofs.Math.Seq.{drop-cons}
@@ -21,12 +21,12 @@ without_first block (x ∷ xs) zero first = rw (eq-eqb x block first.there) refl
 without_first block (x ∷ xs) (suc i) first =
     rw (ne_eqb x block (first.before 0 (omega arith)))
     (ap (λ (l : List ℕ). x ∷ l)
-        (without_first block xs i
-            (record {
-                below = let h : suc i < length (x ∷ xs) = first.below in omega arith;
-                there = first.there;
-                before = λ k h. first.before (suc k) (omega arith);
-            })))
+    (without_first block xs i
+    (record {
+      below = let h : suc i < length (x ∷ xs) = first.below in omega arith;
+      there = first.there;
+      before = λ k h. first.before (suc k) (omega arith);
+    })))
 
 pub without_absent : (block : ℕ) (blocks : List ℕ) → ((k : ℕ) → k < length blocks → get_or blocks k 0 ≡ block → ⊥) → without block blocks ≡ blocks
 without_absent block [] absent = refl
@@ -56,7 +56,7 @@ shifted_more block blocks i h =
     take_more (block ∷ blocks) i 0 (omega arith) in
     rw (rest, more)
     (set_at front (get_or blocks i 0) (drop (i + 1) blocks) carried i len
-        ∙ sym (append_assoc front (carried ∷ []) (drop (i + 1) blocks)))
+    ∙ sym (append_assoc front (carried ∷ []) (drop (i + 1) blocks)))
 
 -- the block was at a place, and is the first now
 pub moved_from :
@@ -69,13 +69,13 @@ moved_from block blocks i first =
 pub moved_in :
     (block : ℕ) (blocks : List ℕ)
     → (take (length blocks) (block ∷ blocks) ++ drop (length blocks) blocks)
-        ++ get_or (block ∷ blocks) (length blocks) 0 ∷ []
+    ++ get_or (block ∷ blocks) (length blocks) 0 ∷ []
     ≡ block ∷ blocks
 moved_in block blocks =
     let len : ℕ = length blocks in
     rw (drop_all len blocks (omega arith), append-nil)
     (sym (take_more (block ∷ blocks) len 0 (omega arith))
-        ∙ take_all (len + 1) (block ∷ blocks) (omega arith))
+    ∙ take_all (len + 1) (block ∷ blocks) (omega arith))
 
 pub contains_at :
     (block : ℕ) (blocks : List ℕ) (i : ℕ) → i < length blocks → get_or blocks i 0 ≡ block
@@ -127,7 +127,7 @@ pub touched_where_kept :
     → now ++ last ∷ [] ≡ block ∷ blocks → now ++ last ∷ [] ≡ touched_set ways block blocks
 touched_where_kept ways block last blocks now room none moved =
     moved ∙ rw (without_absent block blocks (absent_at block blocks none))
-        (sym (take_all ways (block ∷ blocks) (omega arith)))
+    (sym (take_all ways (block ∷ blocks) (omega arith)))
 
 pub touched_where_cut :
     (ways block last : ℕ) (blocks now : List ℕ) → length blocks ≡ ways → (Contains blocks block → ⊥)

@@ -80,8 +80,10 @@ impl PlainCache {
         requires room { length (slice_index_or self.old.sets set []) < self.old.shape.ways }
         requires home { home_of self.old.shape block ≡ set }
         requires absent { ¬ Contains (slice_index_or self.old.sets set []) block }
-        ensures { self.new ≡ record self.old { sets = slice_set self.old.sets set
-            (slice_index_or self.old.sets set [] ++ block ∷ []) } }
+        ensures { self.new ≡ record self.old {
+          sets = slice_set self.old.sets set
+              (slice_index_or self.old.sets set [] ++ block ∷ []);
+        } }
     {
         let lane = &mut self.sets[set as usize];
         lane.append(block);

@@ -37,7 +37,11 @@ impl Geometry {
     {
         let is_line = matches!(line_log, 4..=8 | 12);
         if is_line && sets_log <= 12 && 1 <= ways && ways <= 16 {
-            Some(Geometry { line_log, sets_log, ways })
+            Some(Geometry {
+                line_log,
+                sets_log,
+                ways,
+            })
         } else {
             None
         }

@@ -41,7 +41,9 @@ impl Lane {
     pub fn new() -> Lane
         ensures { result ≡ [] }
     {
-        Lane { blocks: ArrayVec::new() }
+        Lane {
+            blocks: ArrayVec::new(),
+        }
     }
 
     pub fn as_slice(&self) -> &[u32]

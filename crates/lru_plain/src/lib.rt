@@ -6,7 +6,6 @@
 mod cache;
 mod geometry;
 mod lane;
-
 #[cfg(test)]
 mod tests;
 

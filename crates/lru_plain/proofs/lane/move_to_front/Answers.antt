@@ -1,4 +1,4 @@
-use Rattle.std.proofs.Common.{◌≡◌, ℕ, ◌<◌, List, length, get_or, arith, add-one, sym, ◌∙◌, below_more}
+use Rattle.std.proofs.Common.{◌≡◌, ℕ, List, length, get_or, arith, add-one, sym, ◌∙◌, below_more}
 use Rattle.lru_plain.proofs.Touches.{IsFirstPlace, shifted_read, shifted_more, moved_from, moved_in, contains_at, contains_none}
 use Rattle.lru_plain.proofs.lane.move_to_front.Goals as goal
 
@@ -12,10 +12,11 @@ returns-then-here-block c =
       below = omega arith;
       there = sym here ∙ c.if-here-block.true;
       before = c.loop-place.invariant.absent;
-    } in
-    (contains_at c.args.block blocks i first.below first.there,
-        rw (c.loop-place.invariant.moved, c.loop-place.invariant.carried)
-        (shifted_more c.args.block blocks i first.below ∙ moved_from c.args.block blocks i first))
+    } in (
+      contains_at c.args.block blocks i first.below first.there,
+      rw (c.loop-place.invariant.moved, c.loop-place.invariant.carried)
+          (shifted_more c.args.block blocks i first.below ∙ moved_from c.args.block blocks i first),
+    )
 
 pub loop-place-preserved : goal.loop-place-preserved
 loop-place-preserved c =
@@ -32,8 +33,9 @@ loop-place-preserved c =
 
 pub returns : goal.returns
 returns c =
-    let end : c.loop-place.place-index ≡ length c.args.blocks.now = omega arith in
-    (contains_none c.args.block c.args.blocks.now
-            (λ k h. c.loop-place.invariant.absent k (omega arith)),
-        rw (c.loop-place.invariant.moved, c.loop-place.invariant.carried, end)
-        (moved_in c.args.block c.args.blocks.now))
+    let end : c.loop-place.place-index ≡ length c.args.blocks.now = omega arith in (
+      contains_none c.args.block c.args.blocks.now
+          (λ k h. c.loop-place.invariant.absent k (omega arith)),
+      rw (c.loop-place.invariant.moved, c.loop-place.invariant.carried, end)
+          (moved_in c.args.block c.args.blocks.now),
+    )

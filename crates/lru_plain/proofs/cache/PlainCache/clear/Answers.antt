@@ -1,4 +1,4 @@
-use Rattle.std.proofs.Common.{◌≡◌, ◌<◌, length, arith}
+use Rattle.std.proofs.Common.{arith}
 use Rattle.lru_plain.proofs.Plains.{emptied_more}
 use Rattle.lru_plain.proofs.cache.PlainCache.clear.Goals as goal
 

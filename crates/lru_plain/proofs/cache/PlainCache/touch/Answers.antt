@@ -1,6 +1,6 @@
 use Rattle.std.proofs.Common.{◌≡◌, ◌<◌, ℕ, List, length, arith}
 use Rattle.lru_plain.specs.Shape.{Shape}
-use Rattle.lru_plain.specs.Cache.{set_for, touched, touched_set}
+use Rattle.lru_plain.specs.Cache.{set_for, touched_set}
 use Rattle.lru_plain.proofs.Plains.{plain_more, lane_is, touched_is}
 use Rattle.lru_plain.proofs.cache.PlainCache.touch.Goals as goal
 
@@ -27,5 +27,5 @@ returns-clause-plain c = λ addrs was.
     rw (c.from-ways.ensures, c.ways.ensures.value) at c.touch.ensures.blocks in
     rw (plain_more addrs c.args.addr c.args.self.now.shape, ← was, ← c.self.view_is)
     (touched_is g sets c.args.addr c.block_of-block.result c.home_of-home.result
-        c.index_mut-lane.result.now c.touch.new.self c.block_of-block.ensures
-        c.home_of-home.ensures.value lane after)
+    c.index_mut-lane.result.now c.touch.new.self c.block_of-block.ensures
+    c.home_of-home.ensures.value lane after)
