@@ -7,7 +7,7 @@ use Rattle.std.proofs.lemmas.Bool.{cases_lt, cases_Bool, both_ways, false_from_n
 use Rattle.std.proofs.lemmas.Bool.Decides.{nat_tests}
 use Rattle.std.proofs.lemmas.List.{places, take_more, get_or-take, length-take-le}
 use Rattle.std.proofs.lemmas.List.Folds.{find-append}
-use Rattle.elf_image.specs.declared.fields.ProgramHeader.{ProgramHeader}
+use Rattle.elf_image.specs.declared.program_header.ProgramHeader.{ProgramHeader}
 use Rattle.elf_image.specs.Segments.{fills, holds, is_misplaced, overlap, shares_address}
 use Rattle.elf_image.specs.Image.{byte_at, byte_of}
 use Rattle.elf_image.proofs.Overlaps.{apart_from, shares_from, none_at}

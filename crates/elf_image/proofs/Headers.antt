@@ -1,7 +1,7 @@
 -- The table of program headers, read row by row.
 use Rattle.std.proofs.Common.{◌≡◌, ℕ, ◌+◌, ◌*◌, List, map, refl, ◌∙◌}
 use Rattle.std.specs.List.{range_with_len}
-use Rattle.elf_image.specs.declared.fields.ProgramHeader.{ProgramHeader}
+use Rattle.elf_image.specs.declared.program_header.ProgramHeader.{ProgramHeader}
 use Rattle.elf_image.specs.Fields.{program_header_at, program_headers, headers_place, header_count}
 
 -- rows that are as many as the file says, read from where it says, are its program headers

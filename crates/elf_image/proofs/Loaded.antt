@@ -6,7 +6,7 @@ use Rattle.std.proofs.lemmas.Bool.Decides.{nat_tests}
 use Rattle.std.proofs.lemmas.List.Elements.{filter_passes, All-weaker}
 use Rattle.std.proofs.lemmas.List.Folds.{Any-from_list_any}
 use Rattle.std.proofs.lemmas.List.FromFn.{length-map-range_with_len}
-use Rattle.elf_image.specs.declared.fields.ProgramHeader.{ProgramHeader}
+use Rattle.elf_image.specs.declared.program_header.ProgramHeader.{ProgramHeader}
 use Rattle.elf_image.specs.Fields.{program_headers, entry_of}
 use Rattle.elf_image.specs.Segments.{segments_of, is_loaded, passes_file, is_misplaced, overlap, is_entry, holds, memory_end}
 use Rattle.elf_image.specs.Span.{low_of, heap_low_of, highest_end}

@@ -4,7 +4,7 @@ use Rattle.std.specs.Option.{option_or}
 use Rattle.std.proofs.lemmas.List.Folds.{find-append}
 use Rattle.elf_image.specs.declared.fault.ImageFault.{ImageFault}
 use Rattle.elf_image.specs.Rules.{Rule, breaks, verdict, verdict_of, rules, file_rules, segment_rules, Interpreter}
-use Rattle.elf_image.specs.declared.fields.ProgramHeader.{ProgramHeader}
+use Rattle.elf_image.specs.declared.program_header.ProgramHeader.{ProgramHeader}
 use Rattle.elf_image.specs.Segments.{segments_of}
 use Rattle.elf_image.specs.Image.{ImageValue, unless, image_of}
 use Rattle.smarts_base.specs.Outcome.{Answers}

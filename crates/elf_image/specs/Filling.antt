@@ -1,7 +1,7 @@
 -- When segments can fill a part of memory with their bytes of a file.
 use Rattle.std.specs.Prelude.{◌≡◌, ℕ, ◌+◌, ◌≤◌, false, List, length, All}
 use Rattle.std.specs.List.{list_any}
-use Rattle.elf_image.specs.declared.fields.ProgramHeader.{ProgramHeader}
+use Rattle.elf_image.specs.declared.program_header.ProgramHeader.{ProgramHeader}
 use Rattle.elf_image.specs.Segments.{memory_end, passes_file, is_misplaced, overlap}
 
 -- all segments lie in the part, which has so many bytes from an address on, and no rule on their

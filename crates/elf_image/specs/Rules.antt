@@ -1,7 +1,7 @@
 -- The rules that a file must keep to be an image, and the order in which they are judged.
 use Rattle.std.specs.Prelude.{ℕ, ◌-◌, ◌%◌, ◌==◌, nat_lt, nat_eq, Bool, not, ◌&&◌, ◌||◌, List, [], ◌∷◌, ◌++◌, length, slice_index, Option, Some, None, Result, Ok, Err, find}
 use Rattle.std.specs.List.{list_any, starts_with}
-use Rattle.elf_image.specs.declared.fields.ProgramHeader.{ProgramHeader}
+use Rattle.elf_image.specs.declared.program_header.ProgramHeader.{ProgramHeader}
 use Rattle.elf_image.specs.declared.fault.ImageFault.{ImageFault}
 use Rattle.elf_image.specs.declared.fault.ImageFault.TheVariants as faults
 use Rattle.elf_image.specs.Fields.{file_type, machine, flags, entry_of, has_headers, program_headers}

@@ -1,7 +1,7 @@
 -- Loaded segments, and the addresses and bytes of the file that they hold.
 use Rattle.std.specs.Prelude.{ℕ, ◌+◌, ◌%◌, ◌==◌, nat_lt, nat_le, Bool, false, not, ◌&&◌, ◌||◌, List, [], ◌∷◌, filter}
 use Rattle.std.specs.List.{range_with_len, list_any}
-use Rattle.elf_image.specs.declared.fields.ProgramHeader.{ProgramHeader}
+use Rattle.elf_image.specs.declared.program_header.ProgramHeader.{ProgramHeader}
 use Rattle.elf_image.specs.Fields.{program_headers}
 
 -- PT_LOAD, with a size in memory that isn't 0

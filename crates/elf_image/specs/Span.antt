@@ -1,6 +1,6 @@
 -- The addresses from the lowest segment to the heap.
 use Rattle.std.specs.Prelude.{ℕ, ◌+◌, ◌-◌, ◌*◌, ◌/◌, ◌^◌, min, max, List, fold}
-use Rattle.elf_image.specs.declared.fields.ProgramHeader.{ProgramHeader}
+use Rattle.elf_image.specs.declared.program_header.ProgramHeader.{ProgramHeader}
 use Rattle.elf_image.specs.Segments.{memory_end}
 
 -- the multiple of 4096 at the number or next below it, and the one at it or next above it

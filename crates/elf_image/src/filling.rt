@@ -3,7 +3,7 @@ ghost use Rattle.elf_image.specs.Segments.{fills, passes_file};
 ghost use Rattle.elf_image.specs.Filling.{CanFill};
 ghost use Rattle.elf_image.specs.Image.{byte_at};
 
-use crate::fields::ProgramHeader;
+use crate::program_header::ProgramHeader;
 use smarts_base::NoMemory;
 use std::alloc::Global;
 

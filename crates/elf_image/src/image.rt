@@ -1,7 +1,8 @@
 ghost use Rattle.std.specs.Prelude.{◌≡◌, ℕ, ◌+◌, ◌-◌, ◌*◌, ◌/◌, ◌<◌, ◌≤◌, length, IfOk, Ok};
 
-use crate::fields::{ProgramHeader, word_at};
+use crate::fields::{entry_of, word_at};
 use crate::filling::memory_of;
+use crate::program_header::ProgramHeader;
 use crate::span::{heap_low_of, low_of};
 use smarts_base::NoMemory;
 use std::alloc::Global;
@@ -47,7 +48,7 @@ impl Image {
         let low = low_of(segments);
         let heap_low = heap_low_of(segments);
         let memory = memory_of(alloc, low, (heap_low - low) as usize, bytes, segments)?;
-        let entry = word_at(bytes, 24);
+        let entry = entry_of(bytes);
         Ok(Image {
             entry,
             low,

@@ -8,11 +8,12 @@
 
 mod fault;
 mod fields;
+mod file_rules;
 mod filling;
 mod image;
 mod overlap;
+mod program_header;
 mod reading;
-mod rules;
 mod segment;
 mod segment_rules;
 mod span;

@@ -1,9 +1,9 @@
 ghost use Rattle.std.specs.Prelude.{◌≡◌, ℕ, ◌-◌, ◌<◌, ◌≤◌, length, slice_index_or, All, IfOk, true, false};
 ghost use Rattle.std.specs.List.{AllAdjacentBelow};
 ghost use Rattle.elf_image.specs.Segments.{memory_end, overlap};
-ghost use Rattle.elf_image.specs.declared.fields.ProgramHeader.{ProgramHeader};
+ghost use Rattle.elf_image.specs.declared.program_header.ProgramHeader.{ProgramHeader};
 
-use crate::fields::ProgramHeader;
+use crate::program_header::ProgramHeader;
 use smarts_base::NoMemory;
 use std::alloc::Global;
 

@@ -5,8 +5,8 @@ ghost use Rattle.elf_image.specs.Rules.{rules, breaks};
 ghost use Rattle.elf_image.specs.FirstBroken.{IsOfFirstBroken};
 
 use crate::fault::ImageFault;
+use crate::file_rules::judge_file;
 use crate::image::Image;
-use crate::rules::judge_file;
 use crate::segment::loaded_segments;
 use crate::segment_rules::judge_segments;
 use smarts_base::Refusal;

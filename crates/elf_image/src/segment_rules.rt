@@ -6,9 +6,10 @@ ghost use Rattle.elf_image.specs.Rules.{verdict, segment_rules};
 ghost use Rattle.smarts_base.specs.Outcome.{Answers};
 
 use crate::fault::ImageFault;
-use crate::fields::{ProgramHeader, word_at};
+use crate::fields::entry_of;
+use crate::file_rules::LIMIT;
 use crate::overlap::overlap;
-use crate::rules::LIMIT;
+use crate::program_header::ProgramHeader;
 use crate::span::{heap_low_of, low_of};
 use smarts_base::Refusal;
 use std::alloc::Global;
@@ -63,7 +64,7 @@ pub fn judge_segments(
     if span as usize > LIMIT {
         return Err(Refusal::Fault(ImageFault::SpanTooLarge));
     }
-    if !is_entry(segments, word_at(bytes, 24)) {
+    if !is_entry(segments, entry_of(bytes)) {
         return Err(Refusal::Fault(ImageFault::BadEntry));
     }
     Ok(())

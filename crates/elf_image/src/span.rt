@@ -3,7 +3,7 @@ ghost use Rattle.std.specs.List.{list_any};
 ghost use Rattle.elf_image.specs.Segments.{is_misplaced};
 ghost use Rattle.elf_image.specs.Span.{lowest_address, highest_end, low_of, heap_low_of};
 
-use crate::fields::ProgramHeader;
+use crate::program_header::ProgramHeader;
 
 /// Memory begins and ends where a page does.
 const PAGE: u32 = 4096;

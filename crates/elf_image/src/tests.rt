@@ -1,5 +1,5 @@
 use super::*;
-use crate::fields::ProgramHeader;
+use crate::program_header::ProgramHeader;
 use smarts_base::Refusal;
 use std::alloc::{AllocError, Global};
 use std::test::Fail;

@@ -1,6 +1,6 @@
 use Rattle.std.proofs.Common.{ℕ, ◌+◌, ◌-◌, arith, rules}
 use Rattle.std.proofs.lemmas.List.{places}
-use Rattle.elf_image.specs.declared.fields.ProgramHeader.{ProgramHeader}
+use Rattle.elf_image.specs.declared.program_header.ProgramHeader.{ProgramHeader}
 use Rattle.elf_image.proofs.Fills.{filled}
 use Rattle.elf_image.proofs.filling.fill.Goals as goal
 

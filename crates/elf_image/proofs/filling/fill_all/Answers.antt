@@ -1,5 +1,5 @@
 use Rattle.std.proofs.Common.{◌<◌, length, arith}
-use Rattle.elf_image.specs.declared.fields.ProgramHeader.{ProgramHeader}
+use Rattle.elf_image.specs.declared.program_header.ProgramHeader.{ProgramHeader}
 use Rattle.elf_image.specs.Image.{byte_at}
 use Rattle.elf_image.proofs.Fills.{filled_more}
 use Rattle.elf_image.proofs.filling.fill_all.Goals as goal

@@ -21,15 +21,15 @@ memory_of-requires c =
 
 pub returns : goal.returns
 returns c =
-    loaded_as c.args.bytes.now c.args.segments.now c.word_at-entry.result c.low_of-low.result
-    c.heap_low_of-heap_low.result c.in_ok-memory.memory.items c.requires.segments c.word_at-entry.ensures
+    loaded_as c.args.bytes.now c.args.segments.now c.entry_of-entry.result c.low_of-low.result
+    c.heap_low_of-heap_low.result c.in_ok-memory.memory.items c.requires.segments c.entry_of-entry.ensures
     c.low_of-low.ensures c.heap_low_of-heap_low.ensures c.in_ok-memory.ensures.len
     (λ k h. c.in_ok-memory.ensures.bytes k (omega (arith, c.in_ok-memory.ensures.len)))
 
 pub invariant_of-result : goal.invariant_of-result
 invariant_of-result c =
-    let same = loaded_as c.args.bytes.now c.args.segments.now c.word_at-entry.result c.low_of-low.result
-    c.heap_low_of-heap_low.result c.in_ok-memory.memory.items c.requires.segments c.word_at-entry.ensures
+    let same = loaded_as c.args.bytes.now c.args.segments.now c.entry_of-entry.result c.low_of-low.result
+    c.heap_low_of-heap_low.result c.in_ok-memory.memory.items c.requires.segments c.entry_of-entry.ensures
     c.low_of-low.ensures c.heap_low_of-heap_low.ensures c.in_ok-memory.ensures.len
     (λ k h. c.in_ok-memory.ensures.bytes k (omega (arith, c.in_ok-memory.ensures.len))) in
     let P : ImageValue → Type 0 = λ image. IsImage image in

@@ -1,7 +1,7 @@
 use Rattle.std.proofs.Common.{◌≡◌, ◌+◌, ◌*◌, ◌≤◌, map, vec_capacity, vec_len}
 use Rattle.std.specs.List.{range_with_len}
 use Rattle.elf_image.specs.Fields.{program_header_at}
-use Rattle.elf_image.proofs.fields.program_headers.Given as goal
+use Rattle.elf_image.proofs.program_header.program_headers.Given as goal
 
 abbrev pub invariant-loop-i : goal.invariant-loop-i
 invariant-loop-i l = record {

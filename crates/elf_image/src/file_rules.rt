@@ -3,7 +3,10 @@ ghost use Rattle.elf_image.specs.Rules.{is_riscv32, verdict, file_rules};
 ghost use Rattle.elf_image.specs.Fields.{has_headers};
 
 use crate::fault::ImageFault;
-use crate::fields::{FILE_HEADER, PROGRAM_HEADER, half_at, word_at};
+use crate::fields::{
+    FILE_HEADER, file_type, flags, header_count, header_size, headers_place, machine,
+};
+use crate::program_header::PROGRAM_HEADER;
 
 /// The most bytes that a file may have, and the most that its memory may span.
 pub const LIMIT: usize = 67_108_864;
@@ -23,22 +26,22 @@ fn is_riscv32(bytes: &[u8]) -> bool
     requires { 52 ≤ length bytes.now }
     ensures { result ≡ is_riscv32 bytes.now }
 {
-    bytes[4] == 1 && bytes[5] == 1 && half_at(bytes, 18) == RISCV
+    bytes[4] == 1 && bytes[5] == 1 && machine(bytes) == RISCV
 }
 
 fn has_headers(bytes: &[u8]) -> bool
     requires { 52 ≤ length bytes.now }
     ensures { result ≡ has_headers bytes.now }
 {
-    let count = usize::from(half_at(bytes, 44));
+    let count = usize::from(header_count(bytes));
     if count == 0 {
         return true;
     }
-    let end = word_at(bytes, 28) as usize + PROGRAM_HEADER * count;
-    usize::from(half_at(bytes, 42)) == PROGRAM_HEADER && end <= bytes.len()
+    let end = headers_place(bytes) as usize + PROGRAM_HEADER * count;
+    usize::from(header_size(bytes)) == PROGRAM_HEADER && end <= bytes.len()
 }
 
-/// Judges the rules on the file header and of the table of program headers.
+/// Judges the rules on the file header and on the table of program headers.
 #[tactic(auto, unfolding(crate::specs::Rules::breaks, crate::specs::Rules::verdict))]
 pub fn judge_file(bytes: &[u8]) -> Result<(), ImageFault>
     ensures verdict { result ≡ verdict bytes.now file_rules }
@@ -54,10 +57,10 @@ pub fn judge_file(bytes: &[u8]) -> Result<(), ImageFault>
     if !is_riscv32(bytes) {
         return Err(ImageFault::NotRiscv32);
     }
-    if half_at(bytes, 16) != EXECUTABLE {
+    if file_type(bytes) != EXECUTABLE {
         return Err(ImageFault::NotExecutable);
     }
-    if word_at(bytes, 36) & COMPRESSED != 0 {
+    if flags(bytes) & COMPRESSED != 0 {
         return Err(ImageFault::Compressed);
     }
     if !has_headers(bytes) {
