@@ -1,3 +1,4 @@
+pub mod Answerings
 pub mod Folds
 pub mod Measures
 pub mod PartSteps

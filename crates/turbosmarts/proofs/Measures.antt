@@ -155,14 +155,14 @@ pub past_units :
     → unit * size + ran < (units_ended size unit ran + 1) * size
 past_units size unit ran some within =
     let one : (unit + 1) * size ≡ unit * size + size =
-        ap (λ (n : ℕ). n * size) (add-one unit) ∙ suc-mul unit size in
+    ap (λ (n : ℕ). n * size) (add-one unit) ∙ suc-mul unit size in
     let two : (unit + 1 + 1) * size ≡ (unit + 1) * size + size =
-        ap (λ (n : ℕ). n * size) (add-one (unit + 1)) ∙ suc-mul (unit + 1) size in
+    ap (λ (n : ℕ). n * size) (add-one (unit + 1)) ∙ suc-mul (unit + 1) size in
     elim (cases_eq ran size) [
-      inl same ↦ rw (eq-eqb ran size same) (omega arith)
-    | inr other ↦
-        let less : ran < size = below_if_other ran size within other in
-        rw (ne_eqb ran size other) (omega arith)
+      | inl same ↦ rw (eq-eqb ran size same) (omega arith)
+      | inr other ↦
+          let less : ran < size = below_if_other ran size within other in
+          rw (ne_eqb ran size other) (omega arith)
     ]
 
 -- where the run is as long as so many units and a part of one, all that end within it were measured

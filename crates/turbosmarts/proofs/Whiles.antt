@@ -59,16 +59,16 @@ pub units_at_exit :
 units_at_exit latencies start design unit used ran len next cycles same some within before is =
     let length_is : unit * design.unit + ran ≡ len = rw (← same) is in
     let short : unit * design.unit + ran < (units_ended design.unit unit ran + 1) * design.unit =
-        past_units design.unit unit ran some within in
+    past_units design.unit unit ran some within in
     all_measured latencies start design (units_ended design.unit unit ran) next len cycles before
-        (rw (← length_is) short)
+    (rw (← length_is) short)
 
 -- the outcome of a run that traps in a part
 pub trapped_in :
     (start : Machine) (budget size used unit ran len : ℕ) (trap : Trap)
     → used ≡ size → unit * size < budget → len ≡ min used (budget - unit * used) → ran < len
     → ((b : ℕ) → min (unit * size) budget + ran < b
-        → outcome_of start.state b ≡ Trapped (min (unit * size) budget + ran) trap)
+    → outcome_of start.state b ≡ Trapped (min (unit * size) budget + ran) trap)
     → Trapped (unit * used + ran) trap ≡ outcome_of start.state budget
 trapped_in start budget size used unit ran len trap same below is short ends =
     let place : min (unit * size) budget ≡ unit * size = place_is budget size unit below in

@@ -1,11 +1,17 @@
-ghost use Rattle.std.specs.Prelude.{◌≡◌, ◌<◌, ◌≤◌, ℕ, List, IfOk, length};
+ghost use Rattle.std.specs.Prelude.{◌≡◌, ◌<◌, ◌≤◌, ℕ, List, None, IfOk, length, slice_index};
+ghost use Rattle.confidence.specs.Sums.{IsCycles};
+ghost use Rattle.rv_exec.specs.Machine.{State};
+ghost use Rattle.rv_machine.specs.declared.outcome.Outcome.TheVariants.{Exited};
+ghost use Rattle.rv_machine.specs.Machine.{started};
+ghost use Rattle.turbosmarts.specs.declared.latency.Latencies.{Latencies as LatenciesValue};
+ghost use Rattle.turbosmarts.specs.Units.{unit_answers, unit_cycles};
 ghost use Rattle.confidence.specs.Confidence.{IsInRange};
 ghost use Rattle.elf_image.specs.Image.{image_of};
 ghost use Rattle.sample_design.specs.Design.{IsUsable};
-ghost use Rattle.sample_design.specs.Units.{units_of};
+ghost use Rattle.sample_design.specs.Units.{EndsWithin, sampled_unit, units_of};
 ghost use Rattle.smarts_base.specs.Outcome.{Answers};
 ghost use Rattle.smarts_text.specs.Checks.{IsSound};
-ghost use Rattle.turbosmarts.specs.Answer.{exit_or_fault, image_or_fault, sample_of, units_or_fault, written_by};
+ghost use Rattle.turbosmarts.specs.Answer.{exit_or_fault, image_or_fault, report_on, run_of, sample_of, units_or_fault, written_by};
 ghost use Rattle.turbosmarts.specs.Parts.{AreInRange};
 ghost use Rattle.turbosmarts.specs.Writtens.{written_view};
 
@@ -18,7 +24,7 @@ use confidence::Test;
 use elf_image::{Image, read_image};
 use rv_machine::{Outcome, Whole};
 use sample_design::{Design, UnitsFault, visit_order};
-use smarts_base::Refusal;
+use smarts_base::{NoMemory, Refusal};
 use smarts_text::{Command, DesignFault, report_text};
 use std::alloc::Global;
 
@@ -54,11 +60,12 @@ pub fn written_by(
             };
             sample(alloc, design, &latencies, test, input)
         }
-        Command::Run { .. } => Err(Refusal::NoMemory),
+        Command::Run { budget } => run(alloc, *budget, input),
     }
 }
 
 // The report of a sample of the program in the input.
+#[tactic(auto, unfolding(crate::specs::Answer::sample_of))]
 fn sample(
     alloc: Global,
     design: &Design,
@@ -72,24 +79,72 @@ fn sample(
     ensures { Answers written_view result (sample_of design.now latencies.now test.now input.now) }
 {
     let image = image_in(alloc, input)?;
-    let mut whole = Whole::new(alloc, &image, false)?;
+    let mut whole = machine_of(alloc, &image, false)?;
     let measured = measure(alloc, &mut whole, design, latencies)?;
     let exit = exit_of(&measured.outcome, design.budget)?;
     let count = count_in(design, exit.length)?;
+    let report = report_on(alloc, design, test, exit.length, count, &measured.cycles)?;
+    Ok(Written {
+        bytes: report,
+        exit: None,
+    })
+}
+
+// The report on a run of that length with so many sampled units, of these cycles.
+#[tactic(auto, using(crate::proofs::Answerings::report_is))]
+fn report_on(
+    alloc: Global,
+    design: &Design,
+    test: &Test,
+    instructions: u64,
+    count: u32,
+    cycles: &[u32],
+) -> Result<Vec<u8>, NoMemory>
+    requires design { IsUsable design.now }
+    requires test { IsInRange test.now }
+    requires some { 0 < count }
+    requires few { count ≤ 65536 }
+    requires units { (p : ℕ) → p < count → p < length cycles.now }
+    requires cycles { (p : ℕ) → p < length cycles.now → IsCycles (slice_index cycles.now p) }
+    ensures { (latencies : LatenciesValue) (start : State)
+        → ((p : ℕ) → p < count → slice_index cycles.now p ≡ unit_cycles latencies start design.now (sampled_unit design.now p))
+        → IfOk result (λ report. report.items ≡ report_on design.now test.now instructions count
+        (unit_answers latencies start design.now count)) }
+{
     let order = visit_order(alloc, count, design.seed)?;
-    let front = fold_in_order(&measured.cycles, &order, test);
+    let front = fold_in_order(cycles, &order, test);
     let text = report_text(
         alloc,
-        exit.length,
+        instructions,
         count,
         design.unit,
         front.ending(),
         front.sums(),
         test.z,
     )?;
+    Ok(text.into_bytes())
+}
+
+// The machine before the first instruction of an image.
+fn machine_of(alloc: Global, image: &Image, keep_output: bool) -> Result<Whole, NoMemory>
+    ensures started { IfOk result (λ whole. whole ≡ started image.now keep_output) }
+    ensures running { IfOk result (λ whole. whole.state.exit ≡ None) }
+{
+    Whole::new(alloc, image, keep_output)
+}
+
+// The output of the program in the input.
+#[tactic(auto, unfolding(crate::specs::Answer::run_of))]
+fn run(alloc: Global, budget: u64, input: &[u8]) -> Result<Written, Refusal<InputFault>>
+    ensures { Answers written_view result (run_of budget input.now) }
+{
+    let image = image_in(alloc, input)?;
+    let mut whole = machine_of(alloc, &image, true)?;
+    let outcome = whole.run(budget)?;
+    let exit = exit_of(&outcome, budget)?;
     Ok(Written {
-        bytes: text.into_bytes(),
-        exit: None,
+        bytes: whole.into_output(),
+        exit: Some(exit),
     })
 }
 
@@ -104,7 +159,8 @@ fn image_in(alloc: Global, input: &[u8]) -> Result<Image, Refusal<InputFault>>
 }
 
 fn exit_of(outcome: &Outcome, budget: u64) -> Result<Exit, Refusal<InputFault>>
-    ensures { Answers (λ exit. record { code = exit.code; length = exit.length }) result (exit_or_fault budget outcome.now) }
+    ensures value { Answers (λ exit. record { code = exit.code; length = exit.length }) result (exit_or_fault budget outcome.now) }
+    ensures exited { IfOk result (λ exit. outcome.now ≡ Exited exit.code exit.length) }
 {
     match *outcome {
         Outcome::Exited { code, length } => Ok(Exit { code, length }),
@@ -115,7 +171,10 @@ fn exit_of(outcome: &Outcome, budget: u64) -> Result<Exit, Refusal<InputFault>>
 
 fn count_in(design: &Design, length: u64) -> Result<u32, Refusal<InputFault>>
     requires { IsUsable design.now }
-    ensures { Answers (λ n. n) result (units_or_fault (units_of design.now length)) }
+    ensures value { Answers (λ n. n) result (units_or_fault (units_of design.now length)) }
+    ensures some { IfOk result (λ n. 0 < n) }
+    ensures few { IfOk result (λ n. n ≤ 65536) }
+    ensures within { IfOk result (λ n. (p : ℕ) → p < n → EndsWithin design.now length (sampled_unit design.now p)) }
 {
     match design.units(length) {
         Ok(count) => Ok(count),

@@ -2,6 +2,7 @@ ghost use Rattle.std.specs.Prelude.{◌≡◌, ◌<◌, ◌≤◌, ℕ, List, le
 ghost use Rattle.confidence.specs.Confidence.{IsInRange};
 ghost use Rattle.confidence.specs.Sums.{IsCycles};
 ghost use Rattle.ordered_fold.specs.Front.{IsSound, front_of, is_going};
+ghost use Rattle.smarts_text.specs.Report.{IsReported};
 ghost use Rattle.turbosmarts.specs.Visits.{visited, ArePlaces};
 
 use confidence::{Answer, Test};
@@ -17,6 +18,8 @@ pub fn fold_in_order(cycles: &[u32], order: &Order, test: &Test) -> Front
     requires test { IsInRange test.now }
     ensures fold { result ≡ front_of (length order.now) test.now (visited cycles.now order.now) }
     ensures sound { IsSound result }
+    ensures measured { 1 ≤ result.sums.n }
+    ensures reported { IsReported result.ending }
 {
     let mut front = Front::new(order.len(), *test);
     for k in 0..order.len() {

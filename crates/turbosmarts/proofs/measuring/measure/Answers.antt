@@ -10,8 +10,8 @@ loop-unit-init c =
     record {
       way = rw none (at_start _ c.requires.running);
       units = λ h.
-        rw (c.new-meter.ensures.next, c.new-meter.ensures.cycles)
-            (measuring_start _ _ _ c.requires.design.ranges.offset_most);
+          rw (c.new-meter.ensures.next, c.new-meter.ensures.cycles)
+          (measuring_start _ _ _ c.requires.design.ranges.offset_most);
       size_is = c.from-size.ensures;
     }
 
@@ -26,7 +26,7 @@ returns-in-Exited-clause-units c = λ code len same.
     let measured = c.in_ok-take.ensures _ _ units (part_cycles _ _ _ _ _ _ _ below part.cycles) in
     let is : c.loop-unit.unit * c.from-size.result + c.from.result ≡ len = cc in
     rw c.into_cycles.ensures
-        (units_at_exit _ _ _ _ _ _ _ _ _ size some within measured (rw (← c.from.ensures) is))
+    (units_at_exit _ _ _ _ _ _ _ _ _ size some within measured (rw (← c.from.ensures) is))
 
 pub returns-in-Trapped-clause-outcome : goal.returns-in-Trapped-clause-outcome
 returns-in-Trapped-clause-outcome c =
@@ -56,4 +56,4 @@ pub returns-clause-outcome : goal.returns-clause-outcome
 returns-clause-outcome c =
     let some : 0 < c.args.design.now.unit = omega (arith, c.requires.design.ranges.unit_least) in
     is_spent _ _ _ _ c.loop-unit.invariant.way
-        (after_loop _ _ _ _ _ c.from-size.ensures c.div_ceil-unit-end.ensures some c.loop-unit-test.false)
+    (after_loop _ _ _ _ _ c.from-size.ensures c.div_ceil-unit-end.ensures some c.loop-unit-test.false)

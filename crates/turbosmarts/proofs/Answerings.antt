@@ -1,0 +1,121 @@
+-- How the stages of an answer fit together.
+use Rattle.std.proofs.Common.{◌≡◌, ◌<◌, ◌≤◌, ◌+◌, ℕ, List, [], Bool, true, false, None, Result, Ok, Err, IfOk, length, slice_index, zero, suc, refl, sym, ap, ◌∙◌, arith, inl, inr, eq-eqb}
+use Rattle.std.proofs.lemmas.Bool.{cases_lt, cases_eq, ne_eqb, lt-ltb, le-ltb}
+use Rattle.confidence.specs.declared.verdict.Test.{Test}
+use Rattle.elf_image.specs.Image.{ImageValue, image_of}
+use Rattle.ordered_fold.specs.declared.front.Front.{Front}
+use Rattle.ordered_fold.specs.Front.{front_of}
+use Rattle.rv_exec.specs.Machine.{State}
+use Rattle.rv_machine.specs.declared.outcome.Outcome.{Outcome}
+use Rattle.rv_machine.specs.Machine.{Machine, machine_after, started}
+use Rattle.rv_machine.specs.Running.{outcome_of, output_after}
+use Rattle.rv_machine.specs.Start.{start_of}
+use Rattle.sample_design.specs.declared.design.Design.{Design}
+use Rattle.sample_design.specs.Order.{order_of}
+use Rattle.sample_design.specs.declared.units.UnitsFault.{UnitsFault}
+use Rattle.sample_design.specs.declared.units.UnitsFault.TheVariants.{NoUnits, TooMany}
+use Rattle.sample_design.specs.Units.{judged, sampled_unit, unit_count, units_of}
+use Rattle.smarts_text.specs.Report.{report_of}
+use Rattle.turbosmarts.specs.declared.latency.Latencies.{Latencies}
+use Rattle.smarts_text.specs.Texts.{exit_line}
+use Rattle.turbosmarts.specs.Answer.{Exit, image_or_fault, exit_or_fault, units_or_fault, report_on, sample_of, run_of}
+use Rattle.turbosmarts.specs.Units.{unit_cycles, unit_answers}
+use Rattle.turbosmarts.specs.Visits.{visited, ArePlaces}
+use Rattle.turbosmarts.proofs.Folds.{visited_is, ending_whole}
+
+-- a machine that an image starts hasn't exited
+start_exit : (image : ImageValue) → (start_of image).exit ≡ None
+unfolding start_of
+start_exit image = refl
+
+pub start_runs :
+    {E : Type 0} (image : ImageValue) (keeps : Bool) (r : Result Machine E)
+    → IfOk r (λ whole. whole ≡ started image keeps) → IfOk r (λ whole. whole.state.exit ≡ None)
+start_runs image keeps (Ok whole) is = ap (λ (m : Machine). m.state.exit) is ∙ start_exit image
+start_runs image keeps (Err e) is = tt
+
+not_zero : (n : ℕ) → (n ≡ 0 → ⊥) → 0 < n
+not_zero zero other = absurd (other refl)
+not_zero (suc n) other = omega arith
+
+judged_bounds :
+    (length count n : ℕ) → judged length count ≡ Ok n → (0 < n) × (n ≤ 65536) × (n ≡ count)
+judged_bounds length count n is =
+    elim (cases_eq count 0) [
+      | inl none ↦
+          let refused : judged length count ≡ Err (NoUnits length) = rw (eq-eqb count 0 none) refl in
+          cc
+      | inr some ↦
+          elim (cases_lt 65536 count) [
+            | inl many ↦
+                let refused : judged length count ≡ Err (TooMany count) =
+                rw (ne_eqb count 0 some, lt-ltb 65536 count many) refl in
+                cc
+            | inr few ↦
+                let kept : judged length count ≡ Ok count =
+                rw (ne_eqb count 0 some, le-ltb 65536 count few) refl in
+                let same : n ≡ count = cc in
+                let above : 0 < count = not_zero count some in
+                (omega arith, omega arith, same)
+          ]
+    ]
+
+-- how many units there are is told by their bounds
+pub units_bounds :
+    (design : Design) (length n : ℕ) → Ok n ≡ units_of design length
+    → (0 < n) × (n ≤ 65536) × (n ≡ unit_count design length)
+unfolding units_of
+units_bounds design length n is = judged_bounds length (unit_count design length) n (sym is)
+
+-- the report on a front that folded what was measured
+pub report_is :
+    (latencies : Latencies) (start : State) (design : Design) (test : Test) (len count : ℕ)
+    (cycles order : List ℕ) (front : Front)
+    → 0 < count
+    → ((p : ℕ) → p < count → slice_index cycles p ≡ unit_cycles latencies start design (sampled_unit design p))
+    → order ≡ order_of count design.seed → length order ≡ count → ((k : ℕ) → k < count → slice_index order k < count)
+    → front ≡ front_of (length order) test (visited cycles order)
+    → report_of len count design.unit front.ending front.sums test.z
+    ≡ report_on design test len count (unit_answers latencies start design count)
+report_is latencies start design test len count cycles order front some units is wide places fold =
+    let answers : visited cycles order ≡ unit_answers latencies start design count =
+    visited_is latencies start design count cycles order units is (λ k h. places k (omega arith)) in
+    let whole = ending_whole test cycles order front (omega arith) fold in
+    rw (whole.0, whole.1, answers) refl
+
+-- the stages of a sample, one after the other
+pub sampled_is :
+    (latencies : Latencies) (design : Design) (test : Test) (input : List ℕ) (image : ImageValue) (start : State)
+    (outcome : Outcome) (exit : Exit) (count : ℕ) (report : List ℕ)
+    → image_or_fault (image_of input) ≡ Ok image
+    → start ≡ start_of image
+    → outcome ≡ outcome_of start design.budget
+    → exit_or_fault design.budget outcome ≡ Ok exit
+    → units_or_fault (units_of design exit.length) ≡ Ok count
+    → report ≡ report_on design test exit.length count (unit_answers latencies start design count)
+    → sample_of design latencies test input ≡ Ok (record { bytes = report; lines = [] })
+unfolding sample_of
+sampled_is latencies design test input image start outcome exit count report loads starts ends exits counts reports =
+    let ran : exit_or_fault design.budget (outcome_of (start_of image) design.budget) ≡ Ok exit =
+    rw (← starts, ← ends) exits in
+    let told : report ≡ report_on design test exit.length count (unit_answers latencies (start_of image) design count) =
+    rw (← starts) reports in
+    rw (loads, ran, counts, told) refl
+
+-- and those of a run
+pub ran_is :
+    (budget : ℕ) (input : List ℕ) (image : ImageValue) (before after : Machine) (outcome : Outcome) (exit : Exit)
+    → image_or_fault (image_of input) ≡ Ok image
+    → before ≡ started image true
+    → outcome ≡ outcome_of before.state budget
+    → after ≡ machine_after before budget
+    → exit_or_fault budget outcome ≡ Ok exit
+    → run_of budget input ≡ Ok (record { bytes = after.output; lines = exit_line exit.code exit.length })
+unfolding run_of
+ran_is budget input image before after outcome exit loads starts ends moves exits =
+    let start : before.state ≡ start_of image = ap (λ (m : Machine). m.state) starts in
+    let ran : exit_or_fault budget (outcome_of (start_of image) budget) ≡ Ok exit =
+    rw (← start, ← ends) exits in
+    let output : after.output ≡ output_after (start_of image) budget =
+    ap (λ (m : Machine). m.output) (moves ∙ ap (λ (m : Machine). machine_after m budget) starts) in
+    rw (loads, ran, output) refl

@@ -1,0 +1,27 @@
+use Rattle.std.proofs.Common.{◌≡◌, ◌<◌, ℕ, length, sym, ap, ◌∙◌, arith}
+use Rattle.rv_machine.specs.Machine.{Machine}
+use Rattle.turbosmarts.proofs.Answerings.{sampled_is}
+use Rattle.turbosmarts.proofs.answering.sample.Goals as goal
+
+pub report_on-requires-clause-units : goal.report_on-requires-clause-units
+report_on-requires-clause-units c = λ p h.
+    let measured = c.in_ok-measured.ensures.units _ _ c.in_ok-exit.ensures.exited in
+    let few = c.in_ok-count.ensures.few in
+    rw c.deref.ensures.value (measured.all p (omega arith) (c.in_ok-count.ensures.within p h))
+
+pub report_on-requires-clause-cycles : goal.report_on-requires-clause-cycles
+report_on-requires-clause-cycles c =
+    let measured = c.in_ok-measured.ensures.units _ _ c.in_ok-exit.ensures.exited in
+    rw c.deref.ensures.value measured.valid
+
+pub returns : goal.returns
+returns c =
+    let measured = c.in_ok-measured.ensures.units _ _ c.in_ok-exit.ensures.exited in
+    let few = c.in_ok-count.ensures.few in
+    let started = ap (λ (m : Machine). m.state) c.in_ok-whole.ensures.started in
+    let report = c.in_ok-report.ensures c.args.latencies.now c.in_ok-whole.whole.state
+    (λ p h.
+    rw c.deref.ensures.value
+    (measured.units p (measured.all p (omega arith) (c.in_ok-count.ensures.within p h)))) in
+    sampled_is _ _ _ _ _ _ _ _ _ _ c.in_ok-image.ensures started c.in_ok-measured.ensures.outcome
+    c.in_ok-exit.ensures.value c.in_ok-count.ensures.value report
