@@ -1,4 +1,5 @@
 pub mod Answerings
+pub mod Endings
 pub mod Folds
 pub mod Measures
 pub mod PartSteps

@@ -7,10 +7,79 @@ mod command;
 mod ending;
 mod fault;
 mod folding;
+mod help;
 mod latency;
 mod measuring;
 mod meter;
 mod telling;
 mod top;
 
-fn main(_rt: HostRuntime) {}
+use smarts_io::{ErrorSink, InputSource, OutputSink, write_all};
+use smarts_text::{Status, WordFault, WordKind};
+use std::process::ExitCode;
+use std::rt::Env;
+use std::{env, io};
+use telling::tell;
+use top::turbosmarts;
+
+fn main(rt: HostRuntime) -> ExitCode {
+    let mut sink = OutputSink::new(rt.stdout());
+    let mut lines = ErrorSink::new(rt.stderr());
+    let status = match words_of(&rt) {
+        Ok(words) => match text_for(&words) {
+            Some(text) => match write_all(&mut sink, text.as_bytes()) {
+                Ok(()) => Status::Done,
+                Err(failed) => told(
+                    &mut lines,
+                    Status::WriteFault {
+                        taken: failed.taken,
+                    },
+                ),
+            },
+            None => {
+                let mut source = InputSource::new(rt.stdin());
+                turbosmarts(rt.alloc(), &words, &mut source, &mut sink, &mut lines)
+            }
+        },
+        Err(status) => told(&mut lines, status),
+    };
+    ExitCode::from(status.number())
+}
+
+// What is printed for a question about the program itself.
+fn text_for(words: &[String]) -> Option<&'static str> {
+    let [word] = words else {
+        return None;
+    };
+    match word.as_str() {
+        "--help" => Some(help::HELP),
+        "--version" => Some(help::VERSION),
+        _ => None,
+    }
+}
+
+// Tells a fault that came before the call of the program.
+fn told<F: smarts_io::Sink>(lines: &mut F, status: Status) -> Status {
+    let mut text = [0; 64];
+    let length = ending::End::of(status).text(&mut text);
+    tell(lines, &text[..length]);
+    status
+}
+
+// The words behind the program's name. A word that isn't text is of no form that a key has.
+fn words_of<R: Env + AllocGlobal>(rt: &R) -> Result<Vec<String>, Status> {
+    let args = match env::args(rt) {
+        Ok(args) => args,
+        Err(error) if error.kind() == io::ErrorKind::OutOfMemory => return Err(Status::NoMemory),
+        Err(_) => {
+            return Err(Status::BadWords(WordFault {
+                kind: WordKind::BadValue,
+                place: 0,
+            }));
+        }
+    };
+    match args.skip(1).collect(rt.alloc()) {
+        Ok(words) => Ok(words),
+        Err(_) => Err(Status::NoMemory),
+    }
+}
