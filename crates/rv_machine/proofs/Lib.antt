@@ -1,6 +1,7 @@
 pub mod Ends
 pub mod Filled
 pub mod Finds
+pub mod Fronts
 pub mod Places
 pub mod Pushed
 pub mod Runs

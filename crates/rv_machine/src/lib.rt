@@ -2,10 +2,11 @@
 //! the run up to its end.
 #![tactic(auto)]
 
-mod blocks;
+mod block;
 mod laws;
 mod outcome;
 mod output;
+mod program_memory;
 mod whole;
 
 pub use laws::endings;

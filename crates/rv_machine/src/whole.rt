@@ -6,9 +6,9 @@ ghost use Rattle.rv_exec.specs.Memory.{word_at};
 ghost use Rattle.rv_machine.specs.Machine.{started, machine_after, Advances, StandsBefore};
 ghost use Rattle.rv_machine.specs.Running.{outcome_of};
 
-use crate::blocks::Blocks;
 use crate::outcome::{MachineFault, Outcome};
 use crate::output::append;
+use crate::program_memory::ProgramMemory;
 use elf_image::Image;
 use rv_exec::{Core, Event, Memory, step};
 use smarts_base::NoMemory;
@@ -29,7 +29,7 @@ const ANSWER: usize = 10;
 #[derive(Debug, Drop)]
 pub struct Whole {
     core: Core,
-    memory: Blocks,
+    memory: ProgramMemory,
     keep_output: bool,
     /// What the program has written so far, where it is kept.
     output: Vec<u8>,
@@ -57,7 +57,7 @@ impl Whole {
     pub fn new(alloc: Global, image: &Image, keep_output: bool) -> Result<Whole, NoMemory>
         ensures { IfOk result (λ whole. whole ≡ started image.now keep_output) }
     {
-        let memory = Blocks::new(alloc, image)?;
+        let memory = ProgramMemory::new(alloc, image)?;
         let mut regs = [0; 32];
         regs[STACK_POINTER] = STACK_START;
         let core = Core {
