@@ -19,12 +19,12 @@ here :
     (q k v : ℕ) (es : List (ℕ × ℕ)) → q ≡ k → map.find nat_cmp q ((k, v) ∷ es) ≡ Some v
 here q k v es e = let tie : (q == k) ≡ true = eq-eqb q k e in rw (unsigned_tied q k, tie) refl
 
-past :
+pub past :
     (q k v : ℕ) (es : List (ℕ × ℕ))
     → q ≢ k → map.find nat_cmp q ((k, v) ∷ es) ≡ map.find nat_cmp q es
 past q k v es e = let tie : (q == k) ≡ false = ne_eqb q k e in rw (unsigned_tied q k, tie) refl
 
-find_hit :
+pub find_hit :
     (base q i : ℕ) (ws : List ℕ) (es : List (ℕ × ℕ))
     → q ≡ base + 4 * i → i < length ws → map.find nat_cmp q (block base ws ++ es) ≡ slice_get ws i
 find_hit base q i [] es e h = absurd (omega arith)
@@ -33,7 +33,7 @@ find_hit base q (suc i) (w ∷ ws) es e h =
     past q base w (block (base + 4) ws ++ es) (omega arith)
     ∙ find_hit (base + 4) q i ws es (omega arith) (omega arith)
 
-find_miss :
+pub find_miss :
     (base q : ℕ) (ws : List ℕ) (es : List (ℕ × ℕ)) → ((k : ℕ) → k < length ws → q ≢ base + 4 * k)
     → map.find nat_cmp q (block base ws ++ es) ≡ map.find nat_cmp q es
 find_miss base q [] es none = refl
@@ -97,7 +97,7 @@ find_behind q a v ((k, x) ∷ es) one other none change =
     ]
 
 -- what the words hold, from the entries of both blocks
-entries_of :
+pub entries_of :
     (low q : ℕ) (ws st : List ℕ)
     → word_at (words_of low ws st) q
     ≡ map.find nat_cmp q (block low ws ++ (block 0x7FF00000 st ++ []))

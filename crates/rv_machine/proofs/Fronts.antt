@@ -18,22 +18,21 @@ length_words items len size is within =
     ∙ ap (λ n. length items + n) (length_zeros (size - len)) ∙ (omega arith)
 
 -- a word behind the front, and none
-zero_read : (n i : ℕ) → i < n → slice_index (zeros n) i ≡ 0
+pub zero_read : (n i : ℕ) → i < n → slice_index (zeros n) i ≡ 0
 unfolding zeros
 zero_read n i h = get_or-replicate n i 0 0 h
 
 pub zero_word :
-    (items : List ℕ) (at len size : ℕ)
-    → len ≡ length items → len ≤ at → at < size
-    → slice_get (items ++ zeros (size - len)) at ≡ Some 0
-zero_word items at len size is behind within =
-    let all : length (items ++ zeros (size - len)) ≡ size =
-    length_words items len size is (omega arith) in
-    let place : at ≡ length items + (at - len) = omega arith in
-    slice_get-get_or (items ++ zeros (size - len)) at 0 (omega arith)
-    ∙ ap Some (ap (slice_index (items ++ zeros (size - len))) place
-    ∙ get_or-append-add items (zeros (size - len)) (at - len) 0
-    ∙ zero_read (size - len) (at - len) (omega arith))
+    (items : List ℕ) (at more : ℕ)
+    → length items ≤ at → at < length items + more → slice_get (items ++ zeros more) at ≡ Some 0
+zero_word items at more behind within =
+    let all : length (items ++ zeros more) ≡ length items + more =
+    length-append items (zeros more) ∙ ap (λ n. length items + n) (length_zeros more) in
+    let place : at ≡ length items + (at - length items) = omega arith in
+    slice_get-get_or (items ++ zeros more) at 0 (omega arith)
+    ∙ ap Some (ap (slice_index (items ++ zeros more)) place
+    ∙ get_or-append-add items (zeros more) (at - length items) 0
+    ∙ zero_read more (at - length items) (omega arith))
 
 pub no_word :
     (items : List ℕ) (at len size : ℕ)

@@ -1,3 +1,4 @@
+pub mod Addresses
 pub mod Ends
 pub mod Filled
 pub mod Finds
@@ -5,6 +6,7 @@ pub mod Fronts
 pub mod Places
 pub mod Pushed
 pub mod Runs
+pub mod Starts
 pub mod Stays
 pub mod Undone
 pub mod Writes

@@ -9,6 +9,6 @@ mod output;
 mod program_memory;
 mod whole;
 
-pub use laws::endings;
+pub use laws::{endings, start_words};
 pub use outcome::{MachineFault, Outcome};
 pub use whole::Whole;

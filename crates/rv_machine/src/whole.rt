@@ -1,8 +1,9 @@
-ghost use Rattle.std.specs.Prelude.{◌≡◌, None, IfOk, OnOk, OnErr};
+ghost use Rattle.std.specs.Prelude.{◌≡◌, ◌↔◌, ℕ, None, IsSome, IfOk, OnOk, OnErr};
 ghost use Rattle.elf_image.specs.Image.{IsImage};
 ghost use Rattle.rv_exec.specs.Events.{IsWellFormed};
 ghost use Rattle.rv_exec.specs.Machine.{state};
-ghost use Rattle.rv_exec.specs.Memory.{word_at};
+ghost use Rattle.rv_exec.specs.Memory.{Mapped, word_at};
+ghost use Rattle.rv_machine.specs.Blocks.{IsWordAddress};
 ghost use Rattle.rv_machine.specs.Machine.{started, machine_after, Advances, StandsBefore};
 ghost use Rattle.rv_machine.specs.Running.{outcome_of};
 
@@ -137,9 +138,12 @@ impl Whole {
         &self.core
     }
 
-    /// The word at an address.
+    /// The word at an address, which is there exactly where the address is a multiple of 4 and is
+    /// mapped.
     pub fn word(&self, addr: u32) -> Option<u32>
-        ensures { result ≡ word_at self.now.state.words addr }
+        ensures value { result ≡ word_at self.now.state.words addr }
+        ensures mapped { (low heap_low : ℕ) → self.now.state.buffers ≡ Mapped low heap_low
+            → IsSome result ↔ IsWordAddress low heap_low addr }
     {
         self.memory.load_word(addr)
     }

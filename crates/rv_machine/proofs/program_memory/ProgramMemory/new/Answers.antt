@@ -23,6 +23,7 @@ returns-clause-blocks c =
     ∙ length_words c.in_ok-stack.stack.items (vec_len c.in_ok-stack.stack) (2 ^ 18) (omega arith)
     (omega (arith, c.in_ok-stack.ensures.len)) in
     record {
+      aligned = omega arith;
       highest = omega arith;
       words = omega arith;
       size = omega arith;
