@@ -7,6 +7,8 @@ mod laws;
 mod outcome;
 mod output;
 mod program_memory;
+#[cfg(test)]
+mod tests;
 mod whole;
 
 pub use laws::{endings, start_words};
