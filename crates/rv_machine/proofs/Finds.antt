@@ -1,15 +1,16 @@
 -- Words that are found in the blocks of a machine, or changed there.
 use Rattle.std.proofs.Common.{◌≡◌, ◌≢◌, ◌<◌, ◌≤◌, ◌+◌, ◌*◌, ◌==◌, ℕ, true, false, zero, suc, List, [], ◌∷◌, ◌++◌, length, slice_set, Some, None, refl, ap, ◌∙◌, sym, arith, inl, inr}
-use Rattle.std.specs.Prelude.{if◌then◌else◌}
+use Rattle.std.specs.Prelude.{Bool, is_some, nat_lt, slice_index, if◌then◌else◌}
 use Rattle.std.specs.List.{slice_get}
 use Rattle.std.specs.FinMap as map
 use Rattle.std.specs.Ordering.{nat_cmp}
 use Rattle.std.specs.Cmp.{unsigned_tied}
 use Rattle.std.proofs.lemmas.Cmp.{nat_cmp_total}
 use Rattle.std.proofs.lemmas.Bool.{cases_eq, cases_lt, ne_eqb}
-use Rattle.std.proofs.lemmas.Option.{slice_get_past}
+use Rattle.std.proofs.lemmas.Option.{slice_get_past, slice_get_within, slice_get-get_or}
 use Rattle.std.proofs.Common.{eq-eqb}
 use Rattle.std.proofs.lemmas.List.{append-nil}
+use Rattle.std.proofs.lemmas.Bool.Decides.{nat_tests}
 use Rattle.rv_exec.specs.Memory.{Words, word_at, stored}
 use Rattle.rv_machine.specs.Blocks.{block, words_of, AreBlocks, IsPlace}
 
@@ -18,7 +19,7 @@ here :
     (q k v : ℕ) (es : List (ℕ × ℕ)) → q ≡ k → map.find nat_cmp q ((k, v) ∷ es) ≡ Some v
 here q k v es e = let tie : (q == k) ≡ true = eq-eqb q k e in rw (unsigned_tied q k, tie) refl
 
-past :
+pub past :
     (q k v : ℕ) (es : List (ℕ × ℕ))
     → q ≢ k → map.find nat_cmp q ((k, v) ∷ es) ≡ map.find nat_cmp q es
 past q k v es e = let tie : (q == k) ≡ false = ne_eqb q k e in rw (unsigned_tied q k, tie) refl
@@ -96,7 +97,7 @@ find_behind q a v ((k, x) ∷ es) one other none change =
     ]
 
 -- what the words hold, from the entries of both blocks
-entries_of :
+pub entries_of :
     (low q : ℕ) (ws st : List ℕ)
     → word_at (words_of low ws st) q
     ≡ map.find nat_cmp q (block low ws ++ (block 0x7FF00000 st ++ []))
@@ -111,7 +112,7 @@ get_stored :
 get_stored words a v q =
     map.get-insert nat_cmp_total words a v q ∙ (rw (unsigned_tied q a))
 
-pub first_hit :
+first_hit :
     (low heap_low a i : ℕ) (ws st : List ℕ)
     → AreBlocks low heap_low ws st → IsPlace low a i → i < length ws
     → word_at (words_of low ws st) a ≡ slice_get ws i
@@ -128,7 +129,7 @@ none_first low a i ws es at h =
     find_miss low a ws es
     (λ k b e. let same : i ≡ k = at.place_of k e in absurd (omega arith))
 
-pub second_hit :
+second_hit :
     (low heap_low a i j : ℕ) (ws st : List ℕ)
     → AreBlocks low heap_low ws st → IsPlace low a i → length ws ≤ i → IsPlace 0x7FF00000 a j
     → word_at (words_of low ws st) a ≡ slice_get st j
@@ -140,7 +141,7 @@ second_hit low heap_low a i j ws st are at past second =
           none_first 0x7FF00000 a j st [] second ge ∙ sym (slice_get_past st j ge)
     ])
 
-pub first_set :
+first_set :
     (low heap_low a i v : ℕ) (ws st : List ℕ)
     → AreBlocks low heap_low ws st → IsPlace low a i → i < length ws
     → words_of low (slice_set ws i v) st ≡ stored (words_of low ws st) a v
@@ -152,7 +153,7 @@ first_set low heap_low a i v ws st are at h =
     ∙ (rw (← place, ← entries_of low q ws st))
     ∙ sym (get_stored (words_of low ws st) a v q))
 
-pub second_set :
+second_set :
     (low heap_low a i j v : ℕ) (ws st : List ℕ)
     → AreBlocks low heap_low ws st → IsPlace low a i → length ws ≤ i → IsPlace 0x7FF00000 a j
     → j < length st
@@ -168,3 +169,57 @@ second_set low heap_low a i j v ws st are at past second h =
     (find_set 0x7FF00000 q j v st [] h ∙ (rw (← place)))
     ∙ (rw (← entries_of low q ws st))
     ∙ sym (get_stored (words_of low ws st) a v q))
+
+-- the word at an address is that at its place in the first block, or else that in the second
+pub first_found :
+    (low heap_low a i word : ℕ) (ws st : List ℕ)
+    → AreBlocks low heap_low ws st → IsPlace low a i → Some word ≡ slice_get ws i
+    → Some word ≡ word_at (words_of low ws st) a
+first_found low heap_low a i word ws st are first found =
+    found ∙ sym (first_hit low heap_low a i ws st are first (slice_get_within ws i word (sym found)))
+
+pub second_found :
+    (low heap_low a i j : ℕ) (ws st : List ℕ)
+    → AreBlocks low heap_low ws st → IsPlace low a i → IsPlace 0x7FF00000 a j
+    → None ≡ slice_get ws i → slice_get st j ≡ word_at (words_of low ws st) a
+second_found low heap_low a i j ws st are first second none =
+    elim (cases_lt i (length ws)) [
+      | inl lt ↦
+          let some : slice_get ws i ≡ Some (slice_index ws i) = slice_get-get_or ws i 0 lt in
+          absurd (cc)
+      | inr ge ↦ sym (second_hit low heap_low a i j ws st are first ge second)
+    ]
+
+-- what is told of a word that is written, and the words after it
+pub first_written :
+    (low heap_low a i v : ℕ) (ws st : List ℕ)
+    → AreBlocks low heap_low ws st → IsPlace low a i → nat_lt i (length ws) ≡ true
+    → (true ≡ is_some (word_at (words_of low ws st) a))
+    × (words_of low (slice_set ws i v) st ≡ stored (words_of low ws st) a v)
+first_written low heap_low a i v ws st are first held =
+    let h : i < length ws = grind (arith, nat_tests) in (
+      sym (ap is_some (first_hit low heap_low a i ws st are first h ∙ slice_get-get_or ws i 0 h)),
+      first_set low heap_low a i v ws st are first h,
+    )
+
+pub second_written :
+    (low heap_low a i j v : ℕ) (held : Bool) (ws st : List ℕ)
+    → AreBlocks low heap_low ws st → IsPlace low a i → IsPlace 0x7FF00000 a j
+    → nat_lt i (length ws) ≡ false → nat_lt j (length st) ≡ held
+    → (held ≡ is_some (word_at (words_of low ws st) a))
+    × (words_of low ws (if held then slice_set st j v else st)
+    ≡ (if held then stored (words_of low ws st) a v else words_of low ws st))
+second_written low heap_low a i j v true ws st are first second none held =
+    let past : length ws ≤ i = grind (arith, nat_tests) in
+    let h : j < length st = grind (arith, nat_tests) in (
+      sym (ap is_some (second_hit low heap_low a i j ws st are first past second
+          ∙ slice_get-get_or st j 0 h)),
+      second_set low heap_low a i j v ws st are first past second h,
+    )
+second_written low heap_low a i j v false ws st are first second none held =
+    let past : length ws ≤ i = grind (arith, nat_tests) in
+    let beyond : length st ≤ j = grind (arith, nat_tests) in (
+      sym (ap is_some (second_hit low heap_low a i j ws st are first past second
+          ∙ slice_get_past st j beyond)),
+      refl,
+    )

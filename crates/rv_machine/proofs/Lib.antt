@@ -1,9 +1,12 @@
+pub mod Addresses
 pub mod Ends
 pub mod Filled
 pub mod Finds
+pub mod Fronts
 pub mod Places
 pub mod Pushed
 pub mod Runs
+pub mod Starts
 pub mod Stays
 pub mod Undone
 pub mod Writes

@@ -1,4 +1,4 @@
-ghost use Rattle.rv_machine.specs.Laws.{ExitsWhere, TrapsWhere, SpendsWhere};
+ghost use Rattle.rv_machine.specs.Laws.{ExitsWhere, TrapsWhere, SpendsWhere, StartWords};
 
 /// Laws of `outcome_of`, which say how a run ends without a least number: a run exits exactly where
 /// every earlier instruction went on and one below the budget exits, and so on for a trap. The
@@ -7,4 +7,11 @@ pub fn endings()
     ensures exited { ExitsWhere }
     ensures trapped { TrapsWhere }
     ensures spent { SpendsWhere }
+{}
+
+/// A law on `start_of`: which words a program starts with. An address has a word exactly where it
+/// is a multiple of 4 and is mapped. The word is the image's where the image has one there, and
+/// else 0.
+pub fn start_words()
+    ensures { StartWords }
 {}

@@ -2,12 +2,15 @@
 //! the run up to its end.
 #![tactic(auto)]
 
-mod blocks;
+mod block;
 mod laws;
 mod outcome;
 mod output;
+mod program_memory;
+#[cfg(test)]
+mod tests;
 mod whole;
 
-pub use laws::endings;
+pub use laws::{endings, start_words};
 pub use outcome::{MachineFault, Outcome};
 pub use whole::Whole;

@@ -1,14 +1,15 @@
-ghost use Rattle.std.specs.Prelude.{◌≡◌, None, IfOk, OnOk, OnErr};
+ghost use Rattle.std.specs.Prelude.{◌≡◌, ◌↔◌, ℕ, None, IsSome, IfOk, OnOk, OnErr};
 ghost use Rattle.elf_image.specs.Image.{IsImage};
 ghost use Rattle.rv_exec.specs.Events.{IsWellFormed};
 ghost use Rattle.rv_exec.specs.Machine.{state};
-ghost use Rattle.rv_exec.specs.Memory.{word_at};
+ghost use Rattle.rv_exec.specs.Memory.{Mapped, word_at};
+ghost use Rattle.rv_machine.specs.Blocks.{IsWordAddress};
 ghost use Rattle.rv_machine.specs.Machine.{started, machine_after, Advances, StandsBefore};
 ghost use Rattle.rv_machine.specs.Running.{outcome_of};
 
-use crate::blocks::Blocks;
 use crate::outcome::{MachineFault, Outcome};
 use crate::output::append;
+use crate::program_memory::ProgramMemory;
 use elf_image::Image;
 use rv_exec::{Core, Event, Memory, step};
 use smarts_base::NoMemory;
@@ -29,7 +30,7 @@ const ANSWER: usize = 10;
 #[derive(Debug, Drop)]
 pub struct Whole {
     core: Core,
-    memory: Blocks,
+    memory: ProgramMemory,
     keep_output: bool,
     /// What the program has written so far, where it is kept.
     output: Vec<u8>,
@@ -57,7 +58,7 @@ impl Whole {
     pub fn new(alloc: Global, image: &Image, keep_output: bool) -> Result<Whole, NoMemory>
         ensures { IfOk result (λ whole. whole ≡ started image.now keep_output) }
     {
-        let memory = Blocks::new(alloc, image)?;
+        let memory = ProgramMemory::new(alloc, image)?;
         let mut regs = [0; 32];
         regs[STACK_POINTER] = STACK_START;
         let core = Core {
@@ -137,9 +138,12 @@ impl Whole {
         &self.core
     }
 
-    /// The word at an address.
+    /// The word at an address, which is there exactly where the address is a multiple of 4 and is
+    /// mapped.
     pub fn word(&self, addr: u32) -> Option<u32>
-        ensures { result ≡ word_at self.now.state.words addr }
+        ensures value { result ≡ word_at self.now.state.words addr }
+        ensures mapped { (low heap_low : ℕ) → self.now.state.buffers ≡ Mapped low heap_low
+            → IsSome result ↔ IsWordAddress low heap_low addr }
     {
         self.memory.load_word(addr)
     }

@@ -1,16 +1,16 @@
-use Rattle.std.proofs.Common.{◌++◌, ℕ, List, arith, ap, sym, ◌∙◌, append_assoc}
+use Rattle.std.proofs.Common.{◌≡◌, ◌++◌, arith, append_assoc}
 use Rattle.std.proofs.lemmas.List.{append-nil}
+use Rattle.rv_machine.specs.Output.{bytes_at}
 use Rattle.rv_machine.proofs.Pushed.{bytes_none, bytes_more}
 use Rattle.rv_machine.proofs.output.append.Goals as goal
 
 pub loop-offset-init : goal.loop-offset-init
 loop-offset-init g c =
     let words = g.M.Memory.words c.args.memory.now in
+    let none : c.args.output.now.items ++ bytes_at words c.args.buffer.addr 0 ≡ c.args.output.now.items =
+    rw (bytes_none words c.args.buffer.addr) (append-nil c.args.output.now.items) in
     record {
-      bytes =
-          c.reserve.ensures.items
-          ∙ sym (ap (λ (bs : List ℕ). c.args.output.now.items ++ bs)
-          (bytes_none words c.args.buffer.addr) ∙ append-nil c.args.output.now.items);
+      bytes = rw none c.reserve.ensures.items;
       room = omega (arith, c.in_ok-reserve.ensures.ok);
     }
 
