@@ -3,8 +3,8 @@ use Rattle.std.proofs.Common.{◌≡◌, ◌+◌, ◌-◌, ◌*◌, ◌<◌, ◌
 use Rattle.std.proofs.lemmas.Bool.{leb-false, lt-leb, lt-ltb, le-ltb}
 use Rattle.std.proofs.lemmas.Nat.{mul-le}
 use Rattle.std.proofs.Math.Nat.{mul-le-mul_right}
-use Rattle.smarts_base.specs.Least.{NonePasses}
-use Rattle.smarts_base.proofs.Leasts.{least_below_none, least_below_some}
+use Rattle.smarts_base.specs.Least.{NonePasses, IsLeastIfAny}
+use Rattle.smarts_base.proofs.Leasts.{least_below_none, least_below_some, least_below_is}
 use Rattle.confidence.specs.declared.sums.Sums.{Sums}
 use Rattle.confidence.specs.Sums.{square}
 use Rattle.confidence.specs.Confidence.{is_within, least_error_of}
@@ -46,3 +46,11 @@ unfolding least_error_of
 error_found sums z error two most passes fails =
     rw (le-ltb sums.n 2 two)
     (least_below_some 10000 error (is_within sums z) (omega arith) passes fails)
+
+-- the least error in words, for what is known to be it
+pub error_is_least :
+    (sums : Sums) (z : ℕ) (found : Option ℕ) → found ≡ least_error_of sums z → 2 ≤ sums.n
+    → IsLeastIfAny 10000 (is_within sums z) found
+unfolding least_error_of
+error_is_least sums z found e two =
+    rw (e, le-ltb sums.n 2 two) (least_below_is 10000 (is_within sums z))

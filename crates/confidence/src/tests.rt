@@ -24,7 +24,6 @@ fn passes_at_a_tie(rt: HostRuntime) {
     sums.add(11);
     let cases = [(2, 1000, true), (2, 999, false), (3, 1000, false)];
     for (min, error, passes) in cases {
-        prove!(min >= 2);
         assert_eq!(rt;
             confident(
                 &sums,

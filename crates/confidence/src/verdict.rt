@@ -1,4 +1,5 @@
 ghost use Rattle.std.specs.Prelude.{◌≡◌, ◌<◌, ◌≤◌};
+ghost use Rattle.smarts_base.specs.Least.{IsLeastIfAny};
 ghost use Rattle.confidence.specs.Sums.{IsBounded};
 ghost use Rattle.confidence.specs.Confidence.{is_confident, is_within, least_error_of, cpi4_of, IsInRange};
 
@@ -54,7 +55,8 @@ pub fn least_error(sums: &Sums, z: u32) -> Option<u32>
     requires bounded { IsBounded sums.now }
     requires z_least { 1 ≤ z }
     requires z_most { z ≤ 4000 }
-    ensures { result ≡ least_error_of sums.now z }
+    ensures value { result ≡ least_error_of sums.now z }
+    ensures least { 2 ≤ sums.now.n → IsLeastIfAny 10000 (is_within sums.now z) result }
 {
     if sums.n < 2 || !within(sums, z, LARGEST_ERROR) {
         return None;

@@ -10,6 +10,8 @@ mod encoding;
 mod field;
 mod inst;
 mod roles;
+#[cfg(test)]
+mod tests;
 
 pub use decoding::decode;
 pub use encoding::encode;

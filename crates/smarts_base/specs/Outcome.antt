@@ -9,3 +9,9 @@ abbrev pub Answers :
 Answers view (Ok value) expected = expected ≡ Ok (view value)
 Answers view (Err (Fault fault)) expected = expected ≡ Err fault
 Answers view (Err NoMemory) expected = Unit {0}
+
+infixl 10 ◌>>=◌
+-- what comes next where there was no fault, and else the fault
+abbrev pub ◌>>=◌ : {A B E : Type 0} → Result A E → (A → Result B E) → Result B E
+◌>>=◌ (Ok value) next = next value
+◌>>=◌ (Err fault) next = Err fault

@@ -63,3 +63,6 @@ impl<W: Write> Sink for OutputSink<W> {
         }
     }
 }
+
+/// A sink over standard error, for what a person is told beside the output.
+pub type ErrorSink<W> = OutputSink<W>;

@@ -11,9 +11,11 @@ mod remaining;
 mod sink;
 mod source;
 mod sure;
+#[cfg(test)]
+mod tests;
 mod writing;
 
-pub use adapters::{InputSource, OutputSink};
+pub use adapters::{ErrorSink, InputSource, OutputSink};
 pub use memory_sink::MemorySink;
 pub use memory_source::MemorySource;
 pub use reading::{ReadError, read_all};

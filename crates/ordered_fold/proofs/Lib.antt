@@ -1,0 +1,4 @@
+pub mod Endings
+pub mod Folds
+pub mod Fronts
+pub mod Sounds

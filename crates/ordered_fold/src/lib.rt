@@ -1,0 +1,14 @@
+//! The ordered fold: answers are taken in one by one, in the order of the points, up to the first
+//! that is a fault or at which the sample meets its test.
+#![tactic(auto)]
+
+mod ending;
+mod front;
+mod laws;
+
+pub use ending::Ending;
+pub use front::Front;
+pub use laws::fold_laws;
+
+#[cfg(test)]
+mod tests;

@@ -1,0 +1,10 @@
+pub mod Actions
+pub mod Arithmetic
+pub mod Bytes
+pub mod Events
+pub mod Machine
+pub mod Memories
+pub mod Memory
+pub mod Next
+pub mod Steps
+pub mod Word

@@ -1,0 +1,143 @@
+ghost use Rattle.std.specs.Prelude.{◌≡◌, ◌<◌, ◌%◌, OnErr};
+ghost use Rattle.rv_exec.specs.Word as words;
+ghost use Rattle.rv_exec.specs.Memory.{Words, Buffers};
+ghost use Rattle.rv_exec.specs.Machine as machine;
+ghost use Rattle.rv_exec.specs.Machine.{state, Went, Leads};
+ghost use Rattle.rv_exec.specs.Next as meaning;
+
+use crate::event::{Buffer, DataRef, Event, Flow, TrapKind};
+use crate::state::Core;
+use rv_isa::{Inst, class_of, dest, sources};
+
+/// The address of the instruction behind the one at `pc`.
+pub fn following(pc: u32) -> u32
+    ensures { result ≡ words.following pc }
+{
+    pc.wrapping_add(4)
+}
+
+pub fn set_register(core: &mut Core, rd: u8, value: u32)
+    requires { rd < 32 }
+    ensures regs { core.new.regs ≡ machine.write core.old.regs rd value }
+    ensures pc { core.new.pc ≡ core.old.pc }
+    ensures brk { core.new.brk ≡ core.old.brk }
+    ensures heap_low { core.new.heap_low ≡ core.old.heap_low }
+    ensures exit { core.new.exit ≡ core.old.exit }
+{
+    if rd != 0 {
+        core.regs[usize::from(rd)] = value;
+    }
+}
+
+/// Ends an instruction that is done but for its pc, and tells what it did.
+#[tactic(auto, unfolding(crate::specs::Next::completes))]
+pub fn complete(
+    core: &mut Core,
+    word: u32,
+    inst: &Inst,
+    access: Option<DataRef>,
+    control: Flow,
+    next: u32,
+    wrote: Option<Buffer>,
+) -> Event
+    requires { next % 4 ≡ 0 }
+    ensures { (m : Words) (b : Buffers)
+        → meaning.completes (state core.old m b) word inst.now access control next wrote
+        ≡ Went result (state core.new m b) }
+{
+    let (first, second) = sources(inst);
+    let event = Event {
+        pc: core.pc,
+        fetched: word,
+        class: class_of(inst),
+        first,
+        second,
+        dest: dest(inst),
+        access,
+        control,
+        next,
+        wrote,
+    };
+    core.pc = next;
+    event
+}
+
+/// The same, where the instruction behind it comes next.
+#[tactic(auto, unfolding(crate::specs::Next::goes_on))]
+pub fn go_on(
+    core: &mut Core,
+    word: u32,
+    inst: &Inst,
+    access: Option<DataRef>,
+    wrote: Option<Buffer>,
+) -> Event
+    ensures { (m : Words) (b : Buffers)
+        → meaning.goes_on (state core.old m b) word inst.now access wrote
+        ≡ Went result (state core.new m b) }
+{
+    let next = following(core.pc);
+    complete(core, word, inst, access, Flow::Straight, next, wrote)
+}
+
+/// The same, with a value for a register.
+#[tactic(auto, unfolding(crate::specs::Next::computes))]
+pub fn compute(
+    core: &mut Core,
+    word: u32,
+    inst: &Inst,
+    rd: u8,
+    value: u32,
+    access: Option<DataRef>,
+    wrote: Option<Buffer>,
+) -> Event
+    requires { rd < 32 }
+    ensures { (m : Words) (b : Buffers)
+        → meaning.computes (state core.old m b) word inst.now rd value access wrote
+        ≡ Went result (state core.new m b) }
+{
+    set_register(core, rd, value);
+    go_on(core, word, inst, access, wrote)
+}
+
+#[tactic(auto, unfolding(crate::specs::Next::branches))]
+pub fn branch(
+    core: &mut Core,
+    word: u32,
+    inst: &Inst,
+    taken: bool,
+    target: u32,
+) -> Result<Event, TrapKind>
+    ensures leads { (m : Words) (b : Buffers)
+        → Leads (meaning.branches (state core.old m b) word inst.now taken target)
+        result (state core.new m b) }
+    ensures unchanged { OnErr result (core.new ≡ core.old) }
+{
+    let next = if taken { target } else { following(core.pc) };
+    if next % 4 != 0 {
+        return Err(TrapKind::BadTarget);
+    }
+    Ok(complete(core, word, inst, None, Flow::Branch { taken }, next, None))
+}
+
+#[tactic(auto, unfolding(crate::specs::Next::jumps))]
+pub fn jump(
+    core: &mut Core,
+    word: u32,
+    inst: &Inst,
+    rd: u8,
+    target: u32,
+    control: Flow,
+) -> Result<Event, TrapKind>
+    requires { rd < 32 }
+    ensures leads { (m : Words) (b : Buffers)
+        → Leads (meaning.jumps (state core.old m b) word inst.now rd target control)
+        result (state core.new m b) }
+    ensures unchanged { OnErr result (core.new ≡ core.old) }
+{
+    if target % 4 != 0 {
+        return Err(TrapKind::BadTarget);
+    }
+    let link = following(core.pc);
+    set_register(core, rd, link);
+    Ok(complete(core, word, inst, None, control, target, None))
+}

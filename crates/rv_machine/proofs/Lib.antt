@@ -1,0 +1,4 @@
+pub mod Finds
+pub mod Places
+pub mod Pushed
+pub mod Writes

@@ -1,0 +1,3 @@
+pub mod Design
+pub mod Order
+pub mod Units

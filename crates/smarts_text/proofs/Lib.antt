@@ -1,0 +1,4 @@
+pub mod Givens
+pub mod Lengths
+pub mod Tables
+pub mod Numerals

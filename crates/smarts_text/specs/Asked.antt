@@ -1,0 +1,55 @@
+-- What accepted words ask for: what is said of a key, and else its default.
+use Rattle.std.specs.Prelude.{ℕ, List, Bool, true, Option, None, option_and_then}
+use Rattle.std.specs.Option.{unwrap_or}
+use Rattle.std.specs.Result.{result_ok}
+use Rattle.sample_design.specs.declared.design.Design.{Design}
+use Rattle.confidence.specs.declared.verdict.Test.{Test}
+use Rattle.smarts_text.specs.declared.keys.Form.{Form}
+use Rattle.smarts_text.specs.declared.keys.Form.TheVariants.{Number, Machine}
+use Rattle.smarts_text.specs.Keys as Keys
+use Rattle.smarts_text.specs.Keys.{Key}
+use Rattle.smarts_text.specs.Values.{number_read, machine_of}
+use Rattle.smarts_text.specs.Words.{given}
+
+abbrev pub number_by : Form → List ℕ → Option ℕ
+number_by (Number low high usual) text = result_ok (number_read low high text)
+number_by (Machine usual) text = None
+
+abbrev pub usual_number : Form → ℕ
+usual_number (Number low high usual) = usual
+usual_number (Machine usual) = 0
+
+-- the number of a key
+unfoldable pub number_in : List (List ℕ) → Key → ℕ
+number_in words key =
+    unwrap_or (option_and_then (number_by key.form) (given key.name words)) (usual_number key.form)
+
+abbrev pub is_usual_ruu : Form → Bool
+is_usual_ruu (Machine usual) = usual
+is_usual_ruu (Number low high usual) = true
+
+-- whether the machine is the one with a register update unit
+unfoldable pub is_ruu_in : List (List ℕ) → Bool
+is_ruu_in words =
+    unwrap_or
+    (option_and_then machine_of (given Keys.machine_key.name words))
+    (is_usual_ruu Keys.machine_key.form)
+
+unfoldable pub design_in : List (List ℕ) → Design
+design_in words =
+    record {
+      unit = number_in words Keys.unit_key;
+      warm = number_in words Keys.warm_key;
+      every = number_in words Keys.every_key;
+      offset = number_in words Keys.offset_key;
+      seed = number_in words Keys.seed_key;
+      budget = number_in words Keys.budget_key;
+    }
+
+unfoldable pub test_in : List (List ℕ) → Test
+test_in words =
+    record {
+      min = number_in words Keys.min_key;
+      z = number_in words Keys.z_key;
+      error = number_in words Keys.error_key;
+    }

@@ -1,0 +1,10 @@
+pub mod Asked
+pub mod Checks
+pub mod Keys
+pub mod Meaning
+pub mod Numbers
+pub mod Report
+pub mod Rows
+pub mod Texts
+pub mod Values
+pub mod Words

@@ -1,0 +1,23 @@
+//! The words of the command line, and every text that the program writes: the report of a sample,
+//! the line on a fault and the line on an exit.
+#![tactic(auto)]
+
+mod asked;
+mod command;
+mod keys;
+mod line;
+mod read;
+mod report;
+mod status;
+mod texts;
+mod values;
+mod words;
+
+pub use command::Command;
+pub use read::{WordFault, WordKind, read_words};
+pub use report::report_text;
+pub use status::{DesignFault, Status};
+pub use texts::{exit_text, fault_text};
+
+#[cfg(test)]
+mod tests;

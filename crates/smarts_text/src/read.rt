@@ -1,0 +1,134 @@
+ghost use Rattle.std.specs.Prelude.{◌≡◌, ◌<◌, false, None, Some, Err, Option, map, length, string_bytes, IfOk};
+ghost use Rattle.smarts_base.specs.Outcome.{Answers};
+ghost use Rattle.smarts_text.specs.Asked.{is_ruu_in, number_in};
+ghost use Rattle.smarts_text.specs.Checks.{IsSound};
+ghost use Rattle.smarts_text.specs.Keys as key_specs;
+ghost use Rattle.smarts_text.specs.Meaning.{command_in, job_of, late_fault, letter_of, meaning, refused};
+
+use crate::asked::{design, number, test, wants_ruu};
+use crate::command::Command;
+use crate::keys;
+use crate::words::fault_among;
+use smarts_base::Refusal;
+
+/// What is wrong with a command line.
+#[derive(Clone, Copy, Debug, PartialEq, Eq)]
+pub struct WordFault {
+    pub kind: WordKind,
+    /// The place of the word, counted from 0, or the number of words where all of them together are
+    /// at fault.
+    pub place: u32,
+}
+
+#[derive(Clone, Copy, Debug, PartialEq, Eq)]
+pub enum WordKind {
+    /// There is no word.
+    NoCommand = 1,
+    /// The first word is no command.
+    UnknownCommand = 2,
+    /// The word has no `=`, or what stands left of the first one is no key of the command.
+    UnknownKey = 3,
+    /// The key stood before.
+    Repeated = 4,
+    /// The value isn't in the key's form.
+    BadValue = 5,
+    /// The value is in the key's form and outside its range.
+    OutOfRange = 6,
+    /// The offset isn't below `every`.
+    OffsetNotBelowEvery = 9,
+    /// The machine isn't there yet.
+    NotBuilt = 10,
+}
+
+// The commands.
+#[derive(Clone, Copy, Debug, PartialEq, Eq)]
+enum Job {
+    Sample,
+    Run,
+}
+
+fn job_named(name: &str) -> Option<Job>
+    ensures { result ≡ job_of name.now }
+{
+    match name {
+        "sample" => Some(Job::Sample),
+        "run" => Some(Job::Run),
+        _ => None,
+    }
+}
+
+fn letter(job: Job) -> u8
+    ensures { result ≡ letter_of job }
+{
+    match job {
+        Job::Sample => b's',
+        Job::Run => b'r',
+    }
+}
+
+#[tactic(auto, unfolding(crate::specs::Meaning::late_fault))]
+fn late_fault(job: Job, words: &[String]) -> Option<WordKind>
+    ensures value { result ≡ late_fault job (map string_bytes words.now) }
+    ensures offset { result ≡ None → number_in (map string_bytes words.now) key_specs.offset_key < number_in (map string_bytes words.now) key_specs.every_key }
+    ensures machine { result ≡ None → job ≡ Job.Sample → is_ruu_in (map string_bytes words.now) ≡ false }
+{
+    if number(words, &keys::EVERY) <= number(words, &keys::OFFSET) {
+        return Some(WordKind::OffsetNotBelowEvery);
+    }
+    if job == Job::Sample && wants_ruu(words) {
+        return Some(WordKind::NotBuilt);
+    }
+    None
+}
+
+#[tactic(auto, unfolding(crate::specs::Meaning::command_in, crate::specs::Asked::design_in))]
+fn command(job: Job, words: &[String]) -> Command
+    requires offset { number_in (map string_bytes words.now) key_specs.offset_key < number_in (map string_bytes words.now) key_specs.every_key }
+    requires machine { job ≡ Job.Sample → is_ruu_in (map string_bytes words.now) ≡ false }
+    ensures value { result ≡ command_in job (map string_bytes words.now) }
+    ensures sound { IsSound result }
+{
+    match job {
+        Job::Sample => Command::Sample {
+            design: design(words),
+            ruu: wants_ruu(words),
+            mul: number(words, &keys::MULLAT) as u32,
+            div: number(words, &keys::DIVLAT) as u32,
+            l1: number(words, &keys::L1LAT) as u32,
+            test: test(words),
+        },
+        Job::Run => Command::Run {
+            budget: number(words, &keys::BUDGET),
+        },
+    }
+}
+
+fn refuse(kind: WordKind, place: usize) -> Result<Command, Refusal<WordFault>>
+    ensures { Answers (λ command. command) result (refused place kind) }
+{
+    let Ok(place) = u32::try_from(place) else {
+        return Err(Refusal::NoMemory);
+    };
+    Err(Refusal::Fault(WordFault { kind, place }))
+}
+
+/// What the words ask for, the program's name not among them. No memory is taken.
+#[tactic(auto, unfolding(crate::specs::Meaning::meaning))]
+pub fn read_words(words: &[String]) -> Result<Command, Refusal<WordFault>>
+    ensures answer { Answers (λ command. command) result (meaning (map string_bytes words.now)) }
+    ensures sound { IfOk result IsSound }
+{
+    let Some((first, words)) = words.split_first() else {
+        return refuse(WordKind::NoCommand, 0);
+    };
+    let Some(job) = job_named(first.as_str()) else {
+        return refuse(WordKind::UnknownCommand, 0);
+    };
+    if let Some((place, kind)) = fault_among(letter(job), words) {
+        return refuse(kind, place + 1);
+    }
+    if let Some(kind) = late_fault(job, words) {
+        return refuse(kind, words.len() + 1);
+    }
+    Ok(command(job, words))
+}

@@ -1,0 +1,307 @@
+use super::*;
+use confidence::{Sums, Test};
+use elf_image::ImageFault;
+use ordered_fold::Ending;
+use rv_exec::{Trap, TrapKind};
+use sample_design::Design;
+use smarts_base::{NoMemory, Refusal};
+use std::alloc::{AllocGlobal, Global};
+use std::process::Abort;
+use std::test::Fail;
+
+fn words(alloc: Global, line: &str) -> Result<Vec<String>, NoMemory> {
+    let mut words = Vec::new(alloc);
+    for word in line.split(' ') {
+        words.push(String::from_str(alloc, word)?)?;
+    }
+    Ok(words)
+}
+
+fn expect(
+    rt: &(impl Abort + AllocGlobal),
+    line: &str,
+    expected: Result<Command, (WordKind, u32)>,
+) -> Result<(), Fail> {
+    let words = words(rt.alloc(), line)?;
+    let expected = expected.map_err(|(kind, place)| Refusal::Fault(WordFault { kind, place }));
+    assert_eq!(rt; read_words(&words), expected, "{line}");
+    Ok(())
+}
+
+#[test]
+fn names_the_first_fault(rt: HostRuntime) -> Result<(), Fail> {
+    assert_eq!(rt;
+        read_words(&[]),
+        Err(Refusal::Fault(WordFault {
+            kind: WordKind::NoCommand,
+            place: 0
+        }))
+    );
+    for (line, kind, place) in [
+        ("", WordKind::UnknownCommand, 0),
+        ("test", WordKind::UnknownCommand, 0),
+        ("Sample unit=x", WordKind::UnknownCommand, 0),
+        ("unit=16 sample", WordKind::UnknownCommand, 0),
+        ("sample unit", WordKind::UnknownKey, 1),
+        ("sample ", WordKind::UnknownKey, 1),
+        ("sample =5", WordKind::UnknownKey, 1),
+        ("sample Unit=16", WordKind::UnknownKey, 1),
+        ("sample unit =16", WordKind::UnknownKey, 1),
+        ("sample b.unit=16", WordKind::UnknownKey, 1),
+        ("sample foo=1 unit=15 foo=1", WordKind::UnknownKey, 1),
+        ("run unit=16", WordKind::UnknownKey, 1),
+        ("run budget=5 machine=scalar", WordKind::UnknownKey, 2),
+        ("sample unit=16 unit=16", WordKind::Repeated, 2),
+        ("sample unit=16 unit=x", WordKind::Repeated, 2),
+        ("sample unit=16 min=2 unit=1=6", WordKind::Repeated, 3),
+        ("sample unit=x", WordKind::BadValue, 1),
+        ("sample unit=x unit=16", WordKind::BadValue, 1),
+        ("sample unit=", WordKind::BadValue, 1),
+        ("sample unit==16", WordKind::BadValue, 1),
+        ("sample unit=+16", WordKind::BadValue, 1),
+        ("sample unit=-16", WordKind::BadValue, 1),
+        ("sample unit=1_000", WordKind::BadValue, 1),
+        ("sample unit=0x20", WordKind::BadValue, 1),
+        ("sample unit=\u{661}\u{666}", WordKind::BadValue, 1),
+        ("sample unit=00000000000000000016", WordKind::BadValue, 1),
+        ("sample machine=x", WordKind::BadValue, 1),
+        ("sample machine=RUU", WordKind::BadValue, 1),
+        ("sample machine=", WordKind::BadValue, 1),
+        ("sample unit=15", WordKind::OutOfRange, 1),
+        ("sample min=1 unit=15", WordKind::OutOfRange, 1),
+        ("sample min=2 unit=10001", WordKind::OutOfRange, 2),
+        ("sample seed=1000000000000000001", WordKind::OutOfRange, 1),
+        ("sample unit=9999999999999999999", WordKind::OutOfRange, 1),
+        ("sample offset=1000000 every=1", WordKind::OutOfRange, 1),
+        ("run budget=0", WordKind::OutOfRange, 1),
+        ("run budget=68719476737", WordKind::OutOfRange, 1),
+        ("sample offset=100", WordKind::OffsetNotBelowEvery, 2),
+        (
+            "sample machine=scalar offset=7 every=7",
+            WordKind::OffsetNotBelowEvery,
+            4,
+        ),
+        ("sample offset=1 every=1 unit=x", WordKind::BadValue, 3),
+        ("sample", WordKind::NotBuilt, 1),
+        ("sample unit=16", WordKind::NotBuilt, 2),
+        ("sample machine=ruu unit=16", WordKind::NotBuilt, 3),
+    ] {
+        expect(&rt, line, Err((kind, place)))?;
+    }
+    Ok(())
+}
+
+#[test]
+fn reads_commands(rt: HostRuntime) -> Result<(), Fail> {
+    let design = Design {
+        unit: 1000,
+        warm: 2000,
+        every: 100,
+        offset: 0,
+        seed: 1,
+        budget: 1_000_000_000,
+    };
+    let test = Test {
+        min: 30,
+        z: 3000,
+        error: 300,
+    };
+    let least = Design {
+        unit: 16,
+        warm: 0,
+        every: 1,
+        offset: 0,
+        seed: 0,
+        budget: 1,
+    };
+    let most = Design {
+        unit: 10_000,
+        warm: 100_000,
+        every: 1_000_000,
+        offset: 999_999,
+        seed: 1_000_000_000_000_000_000,
+        budget: 1 << 36,
+    };
+    let usual = Command::Sample {
+        design,
+        ruu: false,
+        mul: 3,
+        div: 20,
+        l1: 2,
+        test,
+    };
+    for (line, command) in [
+        ("sample machine=scalar", usual),
+        (
+            "sample unit=0000000000000001000 machine=scalar offset=0",
+            usual,
+        ),
+        (
+            "sample unit=16 warm=0 every=1 offset=0 seed=0 budget=1 min=2 z=1 error=1 machine=scalar mullat=1 divlat=1 l1lat=1",
+            Command::Sample {
+                design: least,
+                ruu: false,
+                mul: 1,
+                div: 1,
+                l1: 1,
+                test: Test {
+                    min: 2,
+                    z: 1,
+                    error: 1,
+                },
+            },
+        ),
+        (
+            "sample l1lat=16 divlat=64 mullat=16 machine=scalar error=5000 z=4000 min=65536 budget=68719476736 seed=1000000000000000000 offset=999999 every=1000000 warm=100000 unit=10000",
+            Command::Sample {
+                design: most,
+                ruu: false,
+                mul: 16,
+                div: 64,
+                l1: 16,
+                test: Test {
+                    min: 65_536,
+                    z: 4000,
+                    error: 5000,
+                },
+            },
+        ),
+        (
+            "run",
+            Command::Run {
+                budget: 1_000_000_000,
+            },
+        ),
+        ("run budget=1", Command::Run { budget: 1 }),
+        ("run budget=68719476736", Command::Run { budget: 1 << 36 }),
+    ] {
+        expect(&rt, line, Ok(command))?;
+    }
+    Ok(())
+}
+
+#[test]
+fn writes_one_line_a_status(rt: HostRuntime) {
+    let words = |kind, place| Status::BadWords(WordFault { kind, place });
+    for (status, number, text) in [
+        (Status::Done, 0, ""),
+        (words(WordKind::NoCommand, 0), 1, "words: fault 1 at 0\n"),
+        (
+            words(WordKind::NotBuilt, u32::MAX),
+            1,
+            "words: fault 10 at 4294967295\n",
+        ),
+        (Status::BadImage(ImageFault::NotElf), 2, "image: fault 1\n"),
+        (
+            Status::BadImage(ImageFault::SpanTooLarge),
+            2,
+            "image: fault 11\n",
+        ),
+        (
+            Status::Trapped {
+                at: 7,
+                trap: Trap {
+                    kind: TrapKind::MisalignedLoad,
+                    pc: 0x0001_0070,
+                },
+            },
+            3,
+            "trapped at 7: kind 3, pc 00010070\n",
+        ),
+        (
+            Status::Trapped {
+                at: u64::MAX,
+                trap: Trap {
+                    kind: TrapKind::BadBuffer,
+                    pc: 0xFEDC_BA98,
+                },
+            },
+            3,
+            "trapped at 18446744073709551615: kind 7, pc fedcba98\n",
+        ),
+        (
+            Status::BudgetSpent { budget: 1003 },
+            4,
+            "budget spent after 1003\n",
+        ),
+        (
+            Status::BadDesign(DesignFault::NoUnits { length: 15 }),
+            6,
+            "design: fault 1 value 15\n",
+        ),
+        (
+            Status::BadDesign(DesignFault::TooMany { count: 66048 }),
+            6,
+            "design: fault 2 value 66048\n",
+        ),
+        (Status::ReadFault, 7, "read fault\n"),
+        (
+            Status::WriteFault { taken: 10 },
+            8,
+            "write fault after 10\n",
+        ),
+        (Status::NoMemory, 9, "no memory\n"),
+    ] {
+        let mut out = [b'.'; 64];
+        let len = fault_text(&status, &mut out);
+        assert_eq!(rt; &out[..len], text.as_bytes(), "{text}");
+        assert!(rt; out[len..].iter().all(|&byte| byte == b'.'), "{text}");
+        assert_eq!(rt; status.number(), number, "{text}");
+    }
+    for (code, length, text) in [
+        (0, 18, "exit 0 after 18 instructions\n"),
+        (
+            u32::MAX,
+            u64::MAX,
+            "exit 4294967295 after 18446744073709551615 instructions\n",
+        ),
+    ] {
+        let mut out = [b'.'; 64];
+        let len = exit_text(code, length, &mut out);
+        assert_eq!(rt; &out[..len], text.as_bytes(), "{text}");
+        assert!(rt; out[len..].iter().all(|&byte| byte == b'.'), "{text}");
+    }
+}
+
+#[test]
+fn reports_a_sample(rt: HostRuntime) -> Result<(), Fail> {
+    let even = Sums {
+        n: 30,
+        s1: 480,
+        s2: 7680,
+    };
+    let report = report_text(
+        rt.alloc(),
+        1004,
+        62,
+        16,
+        Ending::Stopped { count: 30 },
+        even,
+        3000,
+    )?;
+    assert_eq!(rt;
+        report.as_str(),
+        "instructions 1004\npoints 62\nsampled 30\nconfident yes\ncycles 480\ncpi 1.0000\nerror 0.00%\n"
+    );
+    let one = Sums {
+        n: 1,
+        s1: 239,
+        s2: 57121,
+    };
+    let report = report_text(rt.alloc(), 16, 1, 16, Ending::Exhausted, one, 3000)?;
+    assert_eq!(rt;
+        report.as_str(),
+        "instructions 16\npoints 1\nsampled 1\nconfident no\ncycles 239\ncpi 14.9375\nerror none\n"
+    );
+    let two = Sums {
+        n: 2,
+        s1: 36,
+        s2: 656,
+    };
+    let report = report_text(rt.alloc(), 40, 2, 16, Ending::Exhausted, two, 3000)?;
+    assert_eq!(rt;
+        report.as_str(),
+        "instructions 40\npoints 2\nsampled 2\nconfident no\ncycles 36\ncpi 1.1250\nerror 33.34%\n"
+    );
+    Ok(())
+}

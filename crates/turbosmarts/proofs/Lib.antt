@@ -1,0 +1,4 @@
+pub mod Endings
+pub mod Numerals
+pub mod Runs
+pub mod Samples

@@ -1,0 +1,9 @@
+pub mod Answer
+pub mod Ends
+pub mod Image
+pub mod Machine
+pub mod Report
+pub mod Running
+pub mod Sampling
+pub mod Status
+pub mod Words
