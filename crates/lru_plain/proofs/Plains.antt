@@ -1,10 +1,11 @@
 -- The cache after a list of addresses.
-use Rattle.std.proofs.Common.{◌≡◌, ℕ, List, [], ◌∷◌, ◌++◌, refl, sym, ◌∙◌, ◌+◌, ◌<◌, length, get_or, set, drop, replicate, add-one, ap}
+use Rattle.std.proofs.Common.{◌≡◌, ℕ, List, [], ◌∷◌, ◌++◌, refl, sym, ◌∙◌, ◌+◌, ◌<◌, length, get_or, set, drop, replicate, add-one, ap, ◌≤◌, All, arith}
 use Rattle.std.proofs.lemmas.Grind.{fold-append, replicate_next}
-use Rattle.std.proofs.lemmas.List.{get_or_default, set_at, append_assoc, length-replicate}
+use Rattle.std.proofs.lemmas.List.Elements.{All-set}
+use Rattle.std.proofs.lemmas.List.{get_or_default, length-take, set_at, append_assoc, length-replicate}
 use Rattle.std.proofs.Math.Seq.{drop-cons}
 use Rattle.lru_plain.specs.Shape.{Shape, block_of, home_of}
-use Rattle.lru_plain.specs.Cache.{plain, touched, touched_set, set_for, empty_sets}
+use Rattle.lru_plain.specs.Cache.{plain, touched, touched_set, without, set_for, empty_sets}
 
 -- after none it is empty
 pub plain_none : (g : Shape) → plain [] g ≡ empty_sets g
@@ -41,3 +42,14 @@ pub touched_is :
     → now ≡ touched_set g.ways block lane → set sets home now ≡ touched g sets addr
 touched_is g sets addr block home lane now line place at after =
     rw (after, at, place, line) refl
+
+-- a touched set is cut at the ways, and so all sets stay cut
+touched_cut : (ways block : ℕ) (lane : List ℕ) → length (touched_set ways block lane) ≤ ways
+touched_cut ways block lane = rw (length-take ways (block ∷ without block lane)) (omega arith)
+
+pub still_cut :
+    (ways block home : ℕ) (sets : List (List ℕ)) (lane now : List ℕ)
+    → All (λ s. length s ≤ ways) sets → now ≡ touched_set ways block lane
+    → All (λ s. length s ≤ ways) (set sets home now)
+still_cut ways block home sets lane now cut after =
+    All-set (λ s. length s ≤ ways) sets home now (rw after (touched_cut ways block lane)) cut

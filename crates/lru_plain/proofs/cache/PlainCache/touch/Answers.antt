@@ -1,7 +1,8 @@
-use Rattle.std.proofs.Common.{◌≡◌, ◌<◌, ℕ, List, length, arith}
+use Rattle.std.proofs.Common.{◌≡◌, ◌<◌, ℕ, List, length, arith, ◌∙◌}
+use Rattle.std.proofs.lemmas.List.{length-set}
 use Rattle.lru_plain.specs.Shape.{Shape}
 use Rattle.lru_plain.specs.Cache.{set_for, touched_set}
-use Rattle.lru_plain.proofs.Plains.{plain_more, lane_is, touched_is}
+use Rattle.lru_plain.proofs.Plains.{plain_more, lane_is, touched_is, still_cut}
 use Rattle.lru_plain.proofs.cache.PlainCache.touch.Goals as goal
 
 pub returns-clause-hit : goal.returns-clause-hit
@@ -29,3 +30,16 @@ returns-clause-plain c = λ addrs was.
     (touched_is g sets c.args.addr c.block_of-block.result c.home_of-home.result
     c.index_mut-lane.result.now c.touch.new.self c.block_of-block.ensures
     c.home_of-home.ensures.value lane after)
+
+pub invariant_of-self : goal.invariant_of-self
+invariant_of-self c =
+    let after : c.touch.new.self
+    ≡ touched_set c.self.inside.geometry.ways c.block_of-block.result c.index_mut-lane.result.now
+    = rw (c.from-ways.ensures, c.ways.ensures.value) at c.touch.ensures.blocks in
+    record {
+      shape = c.self.invariant.shape;
+      sets = length-set c.self.inside.sets.items c.home_of-home.result c.touch.new.self
+          ∙ c.self.invariant.sets;
+      cut = still_cut c.self.inside.geometry.ways c.block_of-block.result c.home_of-home.result
+          c.self.inside.sets.items c.index_mut-lane.result.now c.touch.new.self c.self.invariant.cut after;
+    }
