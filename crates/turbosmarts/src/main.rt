@@ -12,6 +12,8 @@ mod latency;
 mod measuring;
 mod meter;
 mod telling;
+#[cfg(test)]
+mod tests;
 mod top;
 
 use smarts_io::{ErrorSink, InputSource, OutputSink, write_all};
