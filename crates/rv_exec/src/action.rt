@@ -76,6 +76,7 @@ fn is_link(register: u8) -> bool
 }
 
 /// What an instruction is to do at this pc, with these registers.
+#[inline(always)]
 pub fn read_action(core: &Core, inst: &Inst) -> Action
     requires { IsEncodable inst.now }
     ensures { result ≡ actions.action_of core.now.pc core.now.regs inst.now }

@@ -10,12 +10,14 @@ use crate::state::Core;
 use rv_isa::{Inst, class_of, dest, sources};
 
 /// The address of the instruction behind the one at `pc`.
+#[inline(always)]
 pub fn following(pc: u32) -> u32
     ensures { result ≡ words.following pc }
 {
     pc.wrapping_add(4)
 }
 
+#[inline(always)]
 pub fn set_register(core: &mut Core, rd: u8, value: u32)
     requires { rd < 32 }
     ensures regs { core.new.regs ≡ machine.write core.old.regs rd value }
@@ -31,6 +33,7 @@ pub fn set_register(core: &mut Core, rd: u8, value: u32)
 
 /// Ends an instruction that is done but for its pc, and tells what it did.
 #[tactic(auto, unfolding(crate::specs::Next::completes))]
+#[inline(always)]
 pub fn complete(
     core: &mut Core,
     word: u32,
@@ -64,6 +67,7 @@ pub fn complete(
 
 /// The same, where the instruction behind it comes next.
 #[tactic(auto, unfolding(crate::specs::Next::goes_on))]
+#[inline(always)]
 pub fn go_on(
     core: &mut Core,
     word: u32,
@@ -81,6 +85,7 @@ pub fn go_on(
 
 /// The same, with a value for a register.
 #[tactic(auto, unfolding(crate::specs::Next::computes))]
+#[inline(always)]
 pub fn compute(
     core: &mut Core,
     word: u32,
@@ -100,6 +105,7 @@ pub fn compute(
 }
 
 #[tactic(auto, unfolding(crate::specs::Next::branches))]
+#[inline(always)]
 pub fn branch(
     core: &mut Core,
     word: u32,
@@ -120,6 +126,7 @@ pub fn branch(
 }
 
 #[tactic(auto, unfolding(crate::specs::Next::jumps))]
+#[inline(always)]
 pub fn jump(
     core: &mut Core,
     word: u32,

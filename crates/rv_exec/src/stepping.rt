@@ -19,6 +19,7 @@ use rv_isa::{Inst, decode};
 ///
 /// On a trap the core and the memory are as they were. A misaligned address is told before a
 /// missing word.
+#[inline(always)]
 pub fn step<M: Memory>(core: &mut Core, memory: &mut M) -> Result<Event, Trap>
     requires running { core.old.exit ≡ None }
     requires sound { M.sound memory.old }
@@ -37,6 +38,7 @@ pub fn step<M: Memory>(core: &mut Core, memory: &mut M) -> Result<Event, Trap>
 }
 
 #[tactic(auto, unfolding(crate::specs::Next::next))]
+#[inline(always)]
 fn fetch_and_perform<M: Memory>(core: &mut Core, memory: &mut M) -> Result<Event, TrapKind>
     requires { M.sound memory.old }
     ensures next { Leads (meaning.next (state core.old (M.words memory.old) (M.buffers memory.old)))
@@ -53,6 +55,7 @@ fn fetch_and_perform<M: Memory>(core: &mut Core, memory: &mut M) -> Result<Event
     perform(core, memory, word, &inst)
 }
 
+#[inline(always)]
 fn perform<M: Memory>(
     core: &mut Core,
     memory: &mut M,
@@ -108,6 +111,7 @@ fn perform<M: Memory>(
 }
 
 /// The word that holds the address of a load or a store.
+#[inline(always)]
 fn data_word<M: Memory>(
     memory: &M,
     addr: u32,

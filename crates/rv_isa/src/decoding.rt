@@ -10,6 +10,7 @@ use crate::inst::Inst;
 
 /// The instruction that a word stands for. `None` is any word that is not in the table.
 #[tactic(auto, using(crate::proofs::Rows::none_outside, crate::proofs::Ranges::encodable))]
+#[inline(always)]
 pub fn decode(word: u32) -> Option<Inst>
     ensures value { result ≡ decode_of word }
     ensures in_table { IfSome result (IsWordOf word) }
@@ -20,6 +21,7 @@ pub fn decode(word: u32) -> Option<Inst>
 }
 
 #[tactic(auto, unfolding(crate::specs::Decoding::decode_of))]
+#[inline(always)]
 fn by_opcode(word: u32) -> Option<Inst>
     ensures value { result ≡ decode_of word }
     ensures in_table { IfSome result (IsWordOf word) }

@@ -78,6 +78,7 @@ impl Whole {
 
     /// Executes one instruction. Memory can be wanted only where the output is kept and the
     /// instruction writes to it.
+    #[inline(always)]
     pub fn advance(&mut self) -> Result<Event, MachineFault>
         requires { self.old.state.exit ≡ None }
         ensures advances { Advances self.old result self.new }

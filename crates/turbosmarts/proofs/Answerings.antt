@@ -1,5 +1,5 @@
 -- How the stages of an answer fit together.
-use Rattle.std.proofs.Common.{◌≡◌, ◌<◌, ◌≤◌, ◌+◌, ℕ, List, [], Bool, true, false, None, Result, Ok, Err, IfOk, length, slice_index, zero, suc, refl, sym, ap, ◌∙◌, arith, inl, inr, eq-eqb}
+use Rattle.std.proofs.Common.{◌≡◌, ◌<◌, ◌≤◌, ℕ, List, [], Bool, true, None, Result, Ok, Err, IfOk, length, slice_index, zero, suc, refl, sym, ap, ◌∙◌, arith, inl, inr, eq-eqb}
 use Rattle.std.proofs.lemmas.Bool.{cases_lt, cases_eq, ne_eqb, lt-ltb, le-ltb}
 use Rattle.confidence.specs.declared.verdict.Test.{Test}
 use Rattle.elf_image.specs.Image.{ImageValue, image_of}
@@ -12,7 +12,6 @@ use Rattle.rv_machine.specs.Running.{outcome_of, output_after}
 use Rattle.rv_machine.specs.Start.{start_of}
 use Rattle.sample_design.specs.declared.design.Design.{Design}
 use Rattle.sample_design.specs.Order.{order_of}
-use Rattle.sample_design.specs.declared.units.UnitsFault.{UnitsFault}
 use Rattle.sample_design.specs.declared.units.UnitsFault.TheVariants.{NoUnits, TooMany}
 use Rattle.sample_design.specs.Units.{judged, sampled_unit, unit_count, units_of}
 use Rattle.smarts_text.specs.Report.{report_of}
@@ -20,7 +19,7 @@ use Rattle.turbosmarts.specs.declared.latency.Latencies.{Latencies}
 use Rattle.smarts_text.specs.Texts.{exit_line}
 use Rattle.turbosmarts.specs.Answer.{Exit, image_or_fault, exit_or_fault, units_or_fault, report_on, sample_of, run_of}
 use Rattle.turbosmarts.specs.Units.{unit_cycles, unit_answers}
-use Rattle.turbosmarts.specs.Visits.{visited, ArePlaces}
+use Rattle.turbosmarts.specs.Visits.{visited}
 use Rattle.turbosmarts.proofs.Folds.{visited_is, ending_whole}
 
 -- a machine that an image starts hasn't exited

@@ -1,5 +1,5 @@
 -- Folding the answers of units in the order of visits.
-use Rattle.std.proofs.Common.{◌≡◌, Bool, if◌then◌else◌, ◌<◌, ◌≤◌, ◌+◌, ◌++◌, ℕ, List, [], ◌∷◌, false, true, length, take, drop, map, get_or, slice_index, suc, refl, sym, ap, ◌∙◌, arith, subst}
+use Rattle.std.proofs.Common.{◌≡◌, Bool, if◌then◌else◌, ◌<◌, ◌≤◌, ◌+◌, ◌++◌, ℕ, List, [], ◌∷◌, false, true, length, take, drop, map, slice_index, suc, refl, sym, ap, ◌∙◌, arith, subst}
 use Rattle.std.specs.Prelude.{◌==◌}
 use Rattle.std.proofs.lemmas.List.{take_more, take_all, take-append-drop, get_or-map, length-map}
 use Rattle.confidence.specs.declared.answer.Answer.{Answer}

@@ -1,5 +1,5 @@
 -- Measuring the units of a run, one after the other.
-use Rattle.std.proofs.Common.{◌≡◌, ◌<◌, ◌≤◌, ◌+◌, ◌-◌, ◌*◌, ◌++◌, ℕ, List, [], ◌∷◌, length, drop, map, slice_index, sum_by, zero, suc, refl, sym, ap, ◌∙◌, subst, arith, inl, inr, zero-add, add-zero, add-one, eq-eqb}
+use Rattle.std.proofs.Common.{◌≡◌, ◌<◌, ◌≤◌, ◌+◌, ◌-◌, ◌*◌, ◌++◌, ℕ, List, [], ◌∷◌, length, drop, map, sum_by, zero, suc, refl, sym, ap, ◌∙◌, arith, inl, inr, zero-add, add-zero, add-one, eq-eqb}
 use Rattle.std.proofs.Math.Nat.{mul-le-mul_left, mul-le-mul_right, mul-suc, suc-mul}
 use Rattle.std.specs.List.{range_with_len}
 use Rattle.std.proofs.lemmas.Bool.{cases_lt, cases_eq, ne_eqb}
@@ -11,10 +11,10 @@ use Rattle.confidence.specs.Sums.{IsCycles}
 use Rattle.rv_exec.specs.Machine.{State}
 use Rattle.rv_machine.specs.Running.{step_at}
 use Rattle.sample_design.specs.declared.design.Design.{Design}
-use Rattle.sample_design.specs.Units.{sampled_unit, window_of, EndsWithin}
+use Rattle.sample_design.specs.Units.{sampled_unit}
 use Rattle.turbosmarts.specs.declared.latency.Latencies.{Latencies}
 use Rattle.turbosmarts.specs.Parts.{cycles_from, IsMeasuring, AreMeasured, units_ended}
-use Rattle.turbosmarts.specs.Units.{cycles_at, trace_of, scalar_cycles, unit_cycles}
+use Rattle.turbosmarts.specs.Units.{cycles_at, unit_cycles}
 
 drop_range : (a k n : ℕ) → drop k (range_with_len a (k + n)) ≡ range_with_len (a + k) n
 drop_range a zero n = rw (zero-add, add-zero) refl

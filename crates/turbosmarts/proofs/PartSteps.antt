@@ -1,17 +1,16 @@
 -- A part of a run, instruction by instruction.
-use Rattle.std.proofs.Common.{◌≡◌, ◌<◌, ◌≤◌, ◌+◌, ◌*◌, ℕ, Option, Some, None, Ok, Err, add-zero, refl, sym, ap, ◌∙◌, subst, arith}
+use Rattle.std.proofs.Common.{◌≡◌, ◌<◌, ◌≤◌, ◌+◌, ◌*◌, ℕ, Some, None, Ok, Err, add-zero, refl, sym, ap, ◌∙◌, subst, arith}
 use Rattle.rv_exec.specs.declared.event.Event.{Event}
 use Rattle.rv_exec.specs.declared.event.Trap.{Trap}
-use Rattle.rv_exec.specs.Machine.{Outcome, Went}
+use Rattle.rv_exec.specs.Machine.{Went}
 use Rattle.rv_isa.specs.declared.roles.Class.{Class}
 use Rattle.rv_isa.specs.declared.roles.Class.TheVariants as class
 use Rattle.rv_machine.specs.declared.outcome.MachineFault.TheVariants as faults
-use Rattle.rv_machine.specs.declared.outcome.Outcome.TheVariants.{Exited, Trapped}
+use Rattle.rv_machine.specs.declared.outcome.Outcome.TheVariants.{Exited}
 use Rattle.rv_machine.specs.Machine.{Machine, Advances, IsUnderWay}
-use Rattle.rv_machine.specs.Running.{step_at, outcome_of}
+use Rattle.rv_machine.specs.Running.{step_at}
 use Rattle.rv_machine.proofs.Runs.{step_here, goes_on, exits, traps}
 use Rattle.turbosmarts.specs.declared.latency.Latencies.{Latencies}
-use Rattle.turbosmarts.specs.declared.measuring.Part.{Part}
 use Rattle.turbosmarts.specs.declared.measuring.PartEnd.TheVariants as ends
 use Rattle.turbosmarts.specs.Parts.{AreInRange, cycles_from, IsPart}
 use Rattle.turbosmarts.specs.Units.{latency_of, cycles_at}

@@ -1,5 +1,5 @@
 -- Telling a text to a sink that may fail.
-use Rattle.std.proofs.Common.{◌≡◌, ◌<◌, ℕ, List, length, take, Option, Result, Ok, Err, OnOk, IfErr, sym, arith}
+use Rattle.std.proofs.Common.{◌<◌, ℕ, List, length, take, Option, Result, Ok, Err, OnOk, IfErr, arith}
 use Rattle.std.proofs.Math.Seq.{take-length}
 use Rattle.smarts_io.specs.declared.writing.WriteFailed.{WriteFailed}
 use Rattle.smarts_io.specs.Bytes.{Takes}

@@ -10,8 +10,7 @@ use Rattle.rv_machine.specs.Machine.{Machine, IsUnderWay}
 use Rattle.rv_machine.specs.Running.{outcome_of}
 use Rattle.sample_design.specs.declared.design.Design.{Design}
 use Rattle.turbosmarts.specs.declared.latency.Latencies.{Latencies}
-use Rattle.turbosmarts.specs.declared.measuring.Part.{Part}
-use Rattle.turbosmarts.specs.Parts.{cycles_from, IsPart, IsMeasuring, AreMeasured, units_ended}
+use Rattle.turbosmarts.specs.Parts.{cycles_from, IsMeasuring, AreMeasured, units_ended}
 use Rattle.turbosmarts.proofs.Measures.{all_measured, past_units}
 
 pub next_unit : (unit size : ℕ) → (unit + 1) * size ≡ unit * size + size

@@ -1,6 +1,6 @@
 -- What the program answers: a status, the bytes that it writes, and what it tells, as a function of its words and
 -- its input.
-use Rattle.std.specs.Prelude.{ℕ, List, [], map, Result, Ok, Err}
+use Rattle.std.specs.Prelude.{ℕ, List, [], Result, Ok, Err}
 use Rattle.confidence.specs.declared.answer.Answer.{Answer as UnitAnswer}
 use Rattle.confidence.specs.declared.verdict.Test.{Test}
 use Rattle.elf_image.specs.declared.fault.ImageFault.{ImageFault}

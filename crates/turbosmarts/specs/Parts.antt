@@ -2,7 +2,6 @@
 use Rattle.std.specs.Prelude.{◌≡◌, ◌==◌, if◌then◌else◌, ◌<◌, ◌≤◌, ◌+◌, ◌*◌, ℕ, List, length, map, slice_index, sum_by}
 use Rattle.std.specs.List.{range_with_len}
 use Rattle.confidence.specs.Sums.{IsCycles}
-use Rattle.rv_exec.specs.declared.event.Trap.{Trap}
 use Rattle.rv_exec.specs.Machine.{State}
 use Rattle.rv_machine.specs.declared.outcome.Outcome.TheVariants.{Exited, Trapped}
 use Rattle.rv_machine.specs.Machine.{Machine, IsUnderWay}

@@ -1,4 +1,4 @@
-use Rattle.std.proofs.Common.{◌<◌, ◌≡◌, arith}
+use Rattle.std.proofs.Common.{◌≡◌, arith}
 use Rattle.sample_design.specs.Units.{unit_count}
 use Rattle.turbosmarts.proofs.Answerings.{units_bounds}
 use Rattle.turbosmarts.proofs.answering.count_in.Goals as goal

@@ -1,4 +1,4 @@
-use Rattle.std.proofs.Common.{◌≡◌, ◌<◌, ℕ, length, sym, ap, ◌∙◌, arith}
+use Rattle.std.proofs.Common.{ap, arith}
 use Rattle.rv_machine.specs.Machine.{Machine}
 use Rattle.turbosmarts.proofs.Answerings.{sampled_is}
 use Rattle.turbosmarts.proofs.answering.sample.Goals as goal

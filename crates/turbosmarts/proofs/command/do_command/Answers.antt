@@ -1,6 +1,5 @@
-use Rattle.std.proofs.Common.{◌≡◌, List, ℕ, sym, ap, ◌∙◌}
-use Rattle.smarts_io.specs.Bytes.{Takes}
-use Rattle.turbosmarts.specs.Answer.{Answer, done_or_refused, written_by}
+use Rattle.std.proofs.Common.{sym, ap, ◌∙◌}
+use Rattle.turbosmarts.specs.Answer.{Answer, done_or_refused}
 use Rattle.turbosmarts.proofs.Endings.{ends_done, told_when_done}
 use Rattle.turbosmarts.proofs.command.do_command.Goals as goal
 

@@ -1,4 +1,4 @@
-use Rattle.std.proofs.Common.{◌≡◌, ◌≤◌, ◌<◌, ◌*◌, ◌+◌, ℕ, min, sym, ap, ◌∙◌, arith}
+use Rattle.std.proofs.Common.{◌≡◌, ◌≤◌, ◌<◌, ◌*◌, ◌+◌, min, arith}
 use Rattle.rv_machine.proofs.Runs.{at_start, is_spent}
 use Rattle.turbosmarts.proofs.Measures.{measuring_start}
 use Rattle.turbosmarts.proofs.Whiles.{in_loop, after_loop, units_at_exit, trapped_in, way_on, units_on, part_cycles}

@@ -1,4 +1,4 @@
-use Rattle.std.proofs.Common.{◌≡◌, ◌≤◌, sym, ap, ◌∙◌, arith}
+use Rattle.std.proofs.Common.{◌≤◌, sym, ap, ◌∙◌, arith}
 use Rattle.rv_exec.specs.Machine.{State}
 use Rattle.turbosmarts.specs.Units.{latency_of}
 use Rattle.turbosmarts.proofs.PartSteps.{part_begins, part_goes_on, part_exits, part_traps, latency_least, latency_most}

@@ -1,4 +1,4 @@
-use Rattle.std.proofs.Common.{◌≡◌, ◌<◌, length, arith}
+use Rattle.std.proofs.Common.{◌<◌, length, arith}
 use Rattle.turbosmarts.proofs.Measures.{measuring_kept}
 use Rattle.turbosmarts.proofs.meter.Meter.take.Goals as goal
 
