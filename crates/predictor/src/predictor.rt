@@ -1,0 +1,69 @@
+ghost use Rattle.std.specs.Prelude.{◌≡◌, List, [], ◌∷◌, ◌++◌, IfOk};
+ghost use Rattle.rv_exec.specs.declared.event.Event.{Event};
+ghost use Rattle.predictor.specs.Kind.{IsKind};
+ghost use Rattle.predictor.specs.Tables.{empty_tables};
+ghost use Rattle.predictor.specs.Rules.{is_mispredicted, observed, trained};
+
+use crate::image::PredictorImage;
+use crate::kind::PredictorKind;
+use rv_exec::{Event, Flow};
+use smarts_base::NoMemory;
+use std::alloc::Global;
+use std::marker::Model;
+
+/// A predictor of branch directions, of the targets of indirect jumps and of returns. Only `new` and
+/// `image` take memory.
+#[derive(Debug, Drop)]
+pub struct Predictor {
+    tables: PredictorImage,
+}
+
+impl Model for Predictor {
+    ghost use Rattle.predictor.specs.Tables.{Tables};
+
+    ghost Value = { Tables };
+
+    ghost view = { λ fields. fields.tables };
+}
+
+impl Predictor {
+    /// A predictor that has seen no event.
+    #[tactic(auto, unfolding(crate::specs::Rules::trained))]
+    pub fn new(alloc: Global, kind: PredictorKind) -> Result<Predictor, NoMemory>
+        requires { IsKind kind }
+        ensures empty { IfOk result (λ predictor. predictor ≡ empty_tables kind) }
+        ensures trained { IfOk result (λ predictor. predictor ≡ trained kind []) }
+    {
+        let tables = PredictorImage::empty(alloc, kind)?;
+        Ok(Predictor { tables })
+    }
+
+    /// Learns from the event of one instruction, and tells whether it was mispredicted.
+    #[tactic(auto, using(crate::proofs::Trains::trained_more))]
+    pub fn observe(&mut self, event: &Event) -> bool
+        ensures missed { result ≡ is_mispredicted self.old event.now }
+        ensures tables { self.new ≡ observed self.old event.now }
+
+        // After the events of a list, and then this one, it is trained by the longer list.
+        ensures trained { (events : List Event) → self.old ≡ trained self.old.kind events
+            → self.new ≡ trained self.old.kind (events ++ event.now ∷ []) }
+    {
+        match event.control {
+            Flow::Straight => false,
+            Flow::Branch { taken } => self.tables.branch(event.pc, taken),
+            Flow::Jal { push } => {
+                self.tables.push_if(push, event.pc);
+                false
+            }
+            Flow::Jalr { pop, push } => {
+                let missed = if pop {
+                    self.tables.pop(event.next)
+                } else {
+                    self.tables.jump(event.pc, event.next)
+                };
+                self.tables.push_if(push, event.pc);
+                missed
+            }
+        }
+    }
+}
