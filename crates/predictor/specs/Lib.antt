@@ -1,4 +1,5 @@
 pub mod Kind
-pub mod Tables
+pub mod Parts
 pub mod Rules
+pub mod Tables
 pub mod View

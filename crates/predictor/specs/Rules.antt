@@ -75,8 +75,8 @@ abbrev pub target_place : Tables → ℕ → ℕ
 target_place t pc = (pc / 4) % 2 ^ t.kind.target_log
 
 -- the jump's entry holds its pc, and that it led here
-abbrev pub is_target : ℕ × ℕ → ℕ → ℕ → Bool
-is_target entry pc next = (entry.0 == pc) && (entry.1 == next)
+abbrev pub holds_jump : ℕ × ℕ → ℕ → ℕ → Bool
+holds_jump entry pc next = (entry.0 == pc) && (entry.1 == next)
 
 abbrev pub target_for : Tables → ℕ → ℕ × ℕ
 target_for t pc = slice_index_or t.targets (target_place t pc) no_target
@@ -92,7 +92,7 @@ flow_missed t Straight pc next = false
 flow_missed t (Branch taken) pc next = not (same_direction (is_taken (counter_for t pc)) taken)
 flow_missed t (Jal push) pc next = false
 flow_missed t (Jalr true push) pc next = not (is_top t.stack next)
-flow_missed t (Jalr false push) pc next = not (is_target (target_for t pc) pc next)
+flow_missed t (Jalr false push) pc next = not (holds_jump (target_for t pc) pc next)
 
 abbrev pub is_mispredicted : Tables → Event → Bool
 is_mispredicted t event = flow_missed t event.control event.pc event.next

@@ -6,6 +6,7 @@
 mod direction;
 mod image;
 mod kind;
+mod parts;
 mod predictor;
 mod stack;
 #[cfg(test)]
@@ -13,4 +14,5 @@ mod tests;
 
 pub use image::PredictorImage;
 pub use kind::{PredictorKind, Scheme};
+pub use parts::BadPart;
 pub use predictor::Predictor;

@@ -17,3 +17,15 @@ pub fn push(stack: &mut ArrayVec<u32, 16>, depth: usize, address: u32)
     }
     stack.push(address);
 }
+
+/// A stack of these addresses, the first at the bottom.
+pub fn of(addresses: &[u32]) -> ArrayVec<u32, 16>
+    requires { length addresses.now ≤ 16 }
+    ensures { result.items ≡ addresses.now }
+{
+    let mut stack = ArrayVec::new();
+    for address in addresses {
+        stack.push(*address);
+    }
+    stack
+}
