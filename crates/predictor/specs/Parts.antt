@@ -19,6 +19,7 @@ histories Gshare bits = 2 ^ bits
 abbrev pub is_history : PredictorKind → ℕ → Bool
 is_history kind history = nat_lt history (histories kind.scheme kind.bits)
 
+-- instructions stand at multiples of 4
 abbrev pub is_instruction : ℕ → Bool
 is_instruction address = address % 4 == 0
 

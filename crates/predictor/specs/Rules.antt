@@ -15,7 +15,7 @@ abbrev pub mixed : Scheme → ℕ → ℕ → ℕ
 mixed Bimodal word history = word
 mixed Gshare word history = bit_xor word history
 
--- the place of a branch's counter
+-- where a branch's counter stands
 abbrev pub counter_place : Tables → ℕ → ℕ
 counter_place t pc = mixed t.kind.scheme (pc / 4) t.history % 2 ^ t.kind.bits
 
@@ -47,10 +47,11 @@ after_branch t pc taken = record t {
   history = lengthened t.kind.scheme t.kind.bits t.history taken;
 }
 
--- the tables after a call at this pc: its return address lies on the stack, which keeps the latest
+-- the latest of the addresses, up to so many
 abbrev pub latest : ℕ → List ℕ → List ℕ
 latest depth addresses = drop (length addresses - depth) addresses
 
+-- the tables after a call at this pc: the address behind it lies on the stack
 abbrev pub pushed : Tables → ℕ → Tables
 pushed t pc = record t { stack = latest t.kind.depth (t.stack ++ ((pc + 4) % 2 ^ 32) ∷ []) }
 
@@ -70,7 +71,7 @@ is_top stack next = is_address (slice_get stack (length stack - 1)) next
 abbrev pub popped : Tables → Tables
 popped t = record t { stack = take (length t.stack - 1) t.stack }
 
--- the place of an indirect jump's target
+-- where an indirect jump's entry stands
 abbrev pub target_place : Tables → ℕ → ℕ
 target_place t pc = (pc / 4) % 2 ^ t.kind.target_log
 

@@ -13,6 +13,10 @@ pub record Tables : Type 0 where
   pub targets : List (ℕ × ℕ)
   pub stack : List ℕ
 
+abbrev pub tables_with : PredictorKind → List ℕ → ℕ → List (ℕ × ℕ) → List ℕ → Tables
+tables_with kind counters history targets stack =
+    record { kind = kind; counters = counters; history = history; targets = targets; stack = stack }
+
 -- what holds of all tables
 pub record IsTables (t : Tables) : Type 0 where
   pub kind : IsKind t.kind

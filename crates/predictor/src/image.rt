@@ -1,19 +1,18 @@
-ghost use Rattle.std.specs.Prelude.{◌≡◌, ◌≢◌, ℕ, ◌^◌, ◌<◌, ◌≤◌, ◌↔◌, List, length, IfOk, not};
+ghost use Rattle.std.specs.Prelude.{◌≡◌, ◌^◌, ◌≤◌, ◌↔◌, length, IfOk};
 ghost use Rattle.smarts_base.specs.Outcome.{Answers};
 ghost use Rattle.predictor.specs.Kind.{IsKind};
-ghost use Rattle.predictor.specs.Tables.{Tables, IsTables, empty_tables};
+ghost use Rattle.predictor.specs.Tables.{Tables, IsTables, tables_with, empty_tables};
 ghost use Rattle.predictor.specs.Parts.{image_or_fault, fault_of, IsInRange};
-ghost use Rattle.predictor.specs.Rules.{is_taken, same_direction, counter_for, after_branch, pushed_if, is_top, popped, holds_jump, target_for, after_jump, is_mispredicted, observed};
 
-use crate::direction::{counted, lengthened, low_bits, mixed};
 use crate::kind::PredictorKind;
 use crate::parts::{BadPart, first_fault};
 use crate::stack;
 use arrayvec::ArrayVec;
-use rv_exec::{Event, Flow};
 use smarts_base::{NoMemory, Refusal};
 use std::alloc::Global;
 use std::marker::Model;
+
+mod learning;
 
 /// What a predictor has learnt.
 #[derive(Debug, Drop)]
@@ -46,10 +45,8 @@ impl PredictorImage {
         requires { IsKind kind }
         ensures { IfOk result (λ image. image ≡ empty_tables kind) }
     {
-        let mut counters = Vec::new(alloc);
-        counters.resize(1 << kind.bits, 1)?;
-        let mut targets = Vec::new(alloc);
-        targets.resize(1 << kind.target_log, NO_TARGET)?;
+        let counters = vec![in alloc; 1; 1 << kind.bits]?;
+        let targets = vec![in alloc; NO_TARGET; 1 << kind.target_log]?;
         Ok(PredictorImage {
             kind,
             counters,
@@ -68,20 +65,9 @@ impl PredictorImage {
         targets: &[(u32, u32)],
         stack: &[u32],
     ) -> Result<PredictorImage, NoMemory>
-        requires { IsTables (record {
-          kind = kind;
-          counters = counters.now;
-          history = history;
-          targets = targets.now;
-          stack = stack.now;
-        }) }
-        ensures { IfOk result (λ image. image ≡ record {
-          kind = kind;
-          counters = counters.now;
-          history = history;
-          targets = targets.now;
-          stack = stack.now;
-        }) }
+        requires { IsTables (tables_with kind counters.now history targets.now stack.now) }
+        ensures { IfOk result (λ image.
+            image ≡ tables_with kind counters.now history targets.now stack.now) }
     {
         Ok(PredictorImage {
             kind,
@@ -109,22 +95,12 @@ impl PredictorImage {
         requires counters { length counters.now ≡ 2 ^ kind.bits }
         requires targets { length targets.now ≡ 2 ^ kind.target_log }
         requires stack { length stack.now ≤ kind.depth }
-        ensures answer { Answers (λ image. image) result (image_or_fault (record {
-          kind = kind;
-          counters = counters.now;
-          history = history;
-          targets = targets.now;
-          stack = stack.now;
-        })) }
+        ensures answer { Answers (λ image. image) result
+            (image_or_fault (tables_with kind counters.now history targets.now stack.now)) }
 
         // There is no fault exactly where all parts are in their ranges.
-        ensures in_range { let parts : Tables = record {
-          kind = kind;
-          counters = counters.now;
-          history = history;
-          targets = targets.now;
-          stack = stack.now;
-        } in (fault_of parts ≡ None) ↔ IsInRange parts }
+        ensures in_range { let parts = tables_with kind counters.now history targets.now stack.now in
+            (fault_of parts ≡ None) ↔ IsInRange parts }
     {
         if let Some(fault) = first_fault(kind, counters, history, targets, stack) {
             return Err(Refusal::Fault(fault));
@@ -195,73 +171,5 @@ impl PredictorImage {
         ensures tables { IsTables self.now }
     {
         self.stack.as_slice()
-    }
-
-    /// Learns from a branch, and tells whether its direction was mispredicted.
-    fn branch(&mut self, pc: u32, taken: bool) -> bool
-        ensures missed { result ≡ not (same_direction (is_taken (counter_for self.old pc)) taken) }
-        ensures tables { self.new ≡ after_branch self.old pc taken }
-    {
-        let PredictorKind { scheme, bits, .. } = self.kind;
-        let place = low_bits(mixed(scheme, pc / 4, self.history), bits);
-        let counter = &mut self.counters[place as usize];
-        let before = *counter;
-        *counter = counted(before, taken);
-        self.history = lengthened(scheme, bits, self.history, taken);
-        (before >= 2) != taken
-    }
-
-    /// Puts the address behind a call on the stack, if it is one.
-    fn push_if(&mut self, push: bool, pc: u32)
-        ensures { self.new ≡ pushed_if push self.old pc }
-    {
-        if push {
-            let depth = usize::from(self.kind.depth);
-            stack::push(&mut self.stack, depth, pc.wrapping_add(4));
-        }
-    }
-
-    /// Takes the top of the stack, and tells whether a return to this address was mispredicted.
-    fn pop(&mut self, next: u32) -> bool
-        ensures missed { result ≡ not (is_top self.old.stack next) }
-        ensures tables { self.new ≡ popped self.old }
-    {
-        self.stack.pop() != Some(next)
-    }
-
-    /// Learns from an indirect jump that is no return, and tells whether it was mispredicted.
-    fn jump(&mut self, pc: u32, next: u32) -> bool
-        ensures missed { result ≡ not (holds_jump (target_for self.old pc) pc next) }
-        ensures tables { self.new ≡ after_jump self.old pc next }
-    {
-        let place = low_bits(pc / 4, self.kind.target_log);
-        let entry = &mut self.targets[place as usize];
-        let before = *entry;
-        *entry = (pc, next);
-        before != (pc, next)
-    }
-
-    /// Learns from an event, and tells whether it was mispredicted.
-    pub(crate) fn observe(&mut self, event: &Event) -> bool
-        ensures missed { result ≡ is_mispredicted self.old event.now }
-        ensures tables { self.new ≡ observed self.old event.now }
-    {
-        match event.control {
-            Flow::Straight => false,
-            Flow::Branch { taken } => self.branch(event.pc, taken),
-            Flow::Jal { push } => {
-                self.push_if(push, event.pc);
-                false
-            }
-            Flow::Jalr { pop, push } => {
-                let missed = if pop {
-                    self.pop(event.next)
-                } else {
-                    self.jump(event.pc, event.next)
-                };
-                self.push_if(push, event.pc);
-                missed
-            }
-        }
     }
 }

@@ -1,6 +1,7 @@
 ghost use Rattle.std.specs.Prelude.{◌≡◌, ◌^◌, ◌<◌, ◌≤◌, length};
 ghost use Rattle.smarts_base.specs.Least.{least_below};
 ghost use Rattle.predictor.specs.Kind.{IsKind};
+ghost use Rattle.predictor.specs.Tables.{tables_with};
 ghost use Rattle.predictor.specs.Parts.{is_history, is_entry, bad_counter, bad_entry, bad_address, fault_of};
 
 use crate::direction::low_bits;
@@ -88,13 +89,7 @@ pub fn first_fault(
     requires counters { length counters.now < 2 ^ 32 }
     requires targets { length targets.now < 2 ^ 32 }
     requires stack { length stack.now < 2 ^ 32 }
-    ensures { result ≡ fault_of (record {
-      kind = kind;
-      counters = counters.now;
-      history = history;
-      targets = targets.now;
-      stack = stack.now;
-    }) }
+    ensures { result ≡ fault_of (tables_with kind counters.now history targets.now stack.now) }
 {
     if let Some(index) = first_bad_counter(counters) {
         return Some(BadPart { part: 0, index });

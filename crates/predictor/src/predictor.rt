@@ -45,6 +45,7 @@ impl Predictor {
     pub fn observe(&mut self, event: &Event) -> bool
         ensures missed { result ≡ is_mispredicted self.old event.now }
         ensures tables { self.new ≡ observed self.old event.now }
+        ensures kind { self.new.kind ≡ self.old.kind }
 
         // After the events of a list, and then this one, it is trained by the longer list.
         ensures trained { (events : List Event) → self.old ≡ trained self.old.kind events
