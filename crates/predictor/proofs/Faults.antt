@@ -2,11 +2,11 @@
 use Rattle.std.proofs.Common.{◌≡◌, ◌<◌, ◌^◌, ℕ, Bool, true, false, not, ◌↔◌, if◌then◌else◌, Option, Some, None, List, length, get_or, refl, arith}
 use Rattle.std.specs.Prelude.{nat_lt}
 use Rattle.std.specs.List.{AllPass}
-use Rattle.std.proofs.lemmas.List.Elements.{All-from_get_or, All-get_or}
+use Rattle.std.proofs.lemmas.List.Elements.{All-from_get_or}
 use Rattle.std.proofs.lemmas.Bool.Decides.{nat_tests}
 use Rattle.std.proofs.lemmas.Nat.{pow_pos}
-use Rattle.smarts_base.specs.Least.{least_below, or_else, NonePasses}
-use Rattle.smarts_base.proofs.Leasts.{least_below_none, least_below_some, none_passes}
+use Rattle.smarts_base.specs.Least.{least_below, or_else}
+use Rattle.smarts_base.proofs.Leasts.{least_below_none, none_passes}
 use Rattle.predictor.specs.declared.parts.BadPart.{BadPart}
 use Rattle.predictor.specs.declared.kind.Scheme.{Scheme}
 use Rattle.predictor.specs.declared.kind.Scheme.TheVariants.{Bimodal, Gshare}

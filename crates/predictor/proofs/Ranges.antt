@@ -1,12 +1,12 @@
 -- What events of instructions leave in range.
-use Rattle.std.proofs.Common.{◌≡◌, ◌<◌, ◌≤◌, ◌+◌, ◌*◌, ◌-◌, ◌%◌, ◌/◌, ◌^◌, ℕ, Bool, true, false, if◌then◌else◌, List, [], ◌∷◌, ◌++◌, length, get_or, set, take, drop, replicate, refl, arith, ◌≢◌, inl, inr, eq-eqb, ap, ◌∙◌}
+use Rattle.std.proofs.Common.{◌≡◌, ◌<◌, ◌+◌, ◌*◌, ◌-◌, ◌%◌, ◌/◌, ◌^◌, ℕ, Bool, true, false, if◌then◌else◌, List, [], ◌∷◌, ◌++◌, length, get_or, set, refl, arith, ◌≢◌, inl, inr, eq-eqb, ap, ◌∙◌}
 use Rattle.std.specs.Prelude.{nat_lt}
 use Rattle.std.specs.List.{AllPass}
 use Rattle.std.proofs.lemmas.Bool.{cases_eq, cases_lt, ne_eqb}
 use Rattle.std.proofs.lemmas.Grind.{get_or-set_at}
 use Rattle.std.proofs.lemmas.Bool.Decides.{nat_tests}
 use Rattle.std.proofs.lemmas.List.{get_or-replicate, length-replicate, get_or-set_other, length-set, get_or_past}
-use Rattle.std.proofs.lemmas.List.Elements.{All-set, All-take, All-drop, All-append, All-replicate, All-nil, All-push}
+use Rattle.std.proofs.lemmas.List.Elements.{All-set, All-take, All-drop, All-replicate, All-nil, All-push}
 use Rattle.std.proofs.lemmas.Nat.{pow_pos}
 use Rattle.std.proofs.Math.Nat.{mod-lt}
 use Rattle.rv_exec.specs.declared.event.Event.{Event}
@@ -16,8 +16,8 @@ use Rattle.predictor.specs.declared.kind.PredictorKind.{PredictorKind}
 use Rattle.predictor.specs.declared.kind.Scheme.{Scheme}
 use Rattle.predictor.specs.declared.kind.Scheme.TheVariants.{Bimodal, Gshare}
 use Rattle.predictor.specs.Tables.{Tables, no_target, empty_tables}
-use Rattle.predictor.specs.Rules.{counted, lengthened, after_branch, pushed, pushed_if, popped, after_jump, flow_learnt, observed, counter_for, counter_place, target_place}
-use Rattle.predictor.specs.Parts.{IsInRange, is_counter, is_history, is_instruction, is_entry, histories}
+use Rattle.predictor.specs.Rules.{counted, lengthened, after_branch, pushed_if, popped, after_jump, flow_learnt, observed, counter_for, counter_place, target_place}
+use Rattle.predictor.specs.Parts.{IsInRange, is_counter, is_instruction, is_entry, histories}
 
 none_yet : (scheme : Scheme) (bits : ℕ) → nat_lt 0 (histories scheme bits) ≡ true
 none_yet Bimodal bits = refl

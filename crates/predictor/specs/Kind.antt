@@ -1,5 +1,5 @@
 -- The kinds of predictors that there are.
-use Rattle.std.specs.Prelude.{ℕ, ◌≤◌}
+use Rattle.std.specs.Prelude.{◌≤◌}
 use Rattle.predictor.specs.declared.kind.PredictorKind.{PredictorKind}
 
 pub record IsKind (kind : PredictorKind) : Type 0 where

@@ -1,5 +1,5 @@
 -- Which parts an image may have, and the first place at which it has another.
-use Rattle.std.specs.Prelude.{◌≡◌, ℕ, ◌/◌, ◌%◌, ◌^◌, ◌<◌, Bool, true, false, not, ◌&&◌, ◌||◌, ◌==◌, nat_le, nat_lt, if◌then◌else◌, Option, Some, None, Result, Ok, Err, List, length, slice_index, slice_index_or}
+use Rattle.std.specs.Prelude.{◌≡◌, ℕ, ◌/◌, ◌%◌, ◌^◌, ◌<◌, Bool, true, not, ◌&&◌, ◌||◌, ◌==◌, nat_le, nat_lt, if◌then◌else◌, Option, Some, None, Result, Ok, Err, List, length, slice_index, slice_index_or}
 use Rattle.std.specs.List.{AllPass}
 use Rattle.smarts_base.specs.Least.{least_below, or_else}
 use Rattle.predictor.specs.declared.kind.PredictorKind.{PredictorKind}

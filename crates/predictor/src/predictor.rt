@@ -41,6 +41,7 @@ impl Predictor {
     }
 
     /// Learns from the event of one instruction, and tells whether it was mispredicted.
+    #[inline]
     #[tactic(auto, using(crate::proofs::Trains::trained_more))]
     pub fn observe(&mut self, event: &Event) -> bool
         ensures missed { result ≡ is_mispredicted self.old event.now }

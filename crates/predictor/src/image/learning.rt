@@ -53,6 +53,7 @@ impl PredictorImage {
     }
 
     /// Learns from an event, and tells whether it was mispredicted.
+    #[inline]
     pub(crate) fn observe(&mut self, event: &Event) -> bool
         ensures missed { result ≡ is_mispredicted self.old event.now }
         ensures tables { self.new ≡ observed self.old event.now }
