@@ -1,0 +1,5 @@
+pub mod Class
+pub mod Rows
+pub mod Scalar
+pub mod Times
+pub mod Trace

@@ -1,0 +1,16 @@
+//! When each instruction of a trace is fetched, dispatched, issued, completed and retired in a
+//! processor with a register update unit, and the cycles that a stretch of the trace takes.
+#![tactic(auto)]
+
+mod class;
+mod earlier;
+mod rows;
+mod ruu;
+mod scalar;
+mod timed;
+mod trace;
+
+pub use ruu::Ruu;
+pub use scalar::scalar_time;
+pub use timed::Timed;
+pub use trace::{SliceTrace, Trace};
