@@ -2,3 +2,4 @@ pub mod Bounds
 pub mod Slots
 pub mod Nexts
 pub mod Totals
+pub mod Scalars

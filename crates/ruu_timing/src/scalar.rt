@@ -1,4 +1,4 @@
-ghost use Rattle.std.specs.Prelude.{◌≡◌, ◌^◌, ◌<◌, ◌≤◌, length};
+ghost use Rattle.std.specs.Prelude.{◌≡◌, ◌+◌, ◌^◌, ◌<◌, ◌≤◌, length};
 ghost use Rattle.hierarchy.specs.Widths.{AreLatencies};
 ghost use Rattle.ruu_timing.specs.Trace.{IsTrace};
 ghost use Rattle.ruu_timing.specs.Scalar.{scalar_latency, scalar_cycles};
@@ -26,7 +26,9 @@ fn scalar_latency(latencies: &Latencies, class: Class) -> u32
 pub fn scalar_time<T: Trace>(latencies: &Latencies, trace: &T, skip: usize) -> u64
     requires latencies { AreLatencies latencies.now }
     requires trace { IsTrace (T.items trace.now) skip }
-    ensures { result ≡ scalar_cycles latencies.now (T.items trace.now) skip }
+    ensures cycles { result ≡ scalar_cycles latencies.now (T.items trace.now) skip }
+    ensures least { 1 ≤ result }
+    ensures most { length (T.items trace.now) ≤ skip + 10000 → result < 2 ^ 26 }
 {
     let mut total: u64 = 0;
     for i in skip..trace.len() {

@@ -29,8 +29,7 @@ loop-i-preserved g c =
     record {
       widths = c.loop-i.invariant.widths;
       usable = c.loop-i.invariant.usable;
-      rows = c.push.ensures
-          ∙ rw c.loop-i.invariant.rows
+      rows = rw (c.push.ensures, c.loop-i.invariant.rows)
           (times_more c.loop-i.self-inside.widths items c.loop-i.i c.at.result c.at.ensures);
     }
 
