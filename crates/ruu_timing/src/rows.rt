@@ -1,14 +1,15 @@
-ghost use Rattle.std.specs.Prelude.{◌≡◌, ◌==◌, ◌&&◌, ◌+◌, ◌^◌, ◌<◌, ◌≤◌, ℕ, List, [], ◌∷◌, length, IfOk, IfSome, option_copied};
+ghost use Rattle.std.specs.Prelude.{◌≡◌, ◌==◌, ◌&&◌, ◌+◌, ◌^◌, ◌<◌, ◌≤◌, ℕ, List, [], ◌∷◌, length, All, IfOk, IfSome, option_copied};
 ghost use Rattle.std.specs.List.{find, filter, slice_get};
 ghost use Rattle.hierarchy.specs.Widths.{AreWidths};
 ghost use Rattle.hierarchy.specs.Marked.{IsMarked};
 ghost use Rattle.ruu_timing.specs.Class.{is_same, is_store};
 ghost use Rattle.ruu_timing.specs.Rows.{IsWithin, AreTimed};
-ghost use Rattle.ruu_timing.specs.Times.{back, time_of, next_fetch, fetch_of, dispatch_of, memory_ones, writes, stores_to, written, stored, ready_of, has_slot, issue_of, retirement_of, timed_of};
+ghost use Rattle.ruu_timing.specs.Times.{back, time_of, next_fetch, fetch_of, dispatch_of, memory_ones, writes, stores_to, written, stored, ready_of, has_slot, issue_of, retirement_of, timed_of, times};
 
 use crate::class::{accesses_memory, is_ecall, is_load, limit_of};
 use crate::earlier::{access_before, back, first_slot, last_store, last_writer};
 use crate::timed::Timed;
+use crate::trace::Trace;
 use hierarchy::{Marked, Widths};
 use rv_isa::Class;
 use smarts_base::NoMemory;
@@ -56,14 +57,14 @@ impl Rows {
         Ok(Rows { timed: Vec::with_capacity(alloc, MOST)? })
     }
 
-    pub(crate) fn clear(&mut self)
+    fn clear(&mut self)
         ensures { self.new ≡ [] }
     {
         self.timed.clear();
     }
 
     /// The instruction that is `k` before the next.
-    fn back(&self, k: usize) -> Option<&Timed>
+    pub(crate) fn back(&self, k: usize) -> Option<&Timed>
         requires { 1 ≤ k }
         ensures value { option_copied result ≡ back self.now k }
         ensures within { IfSome result (λ x. IsWithin (2 ^ 32) x.now) }
@@ -221,7 +222,7 @@ impl Rows {
 
     /// The times of an instruction that follows.
     #[tactic(auto, unfolding(crate::specs::Times::timed_of))]
-    pub(crate) fn timed_of(&self, w: &Widths, mark: Marked) -> Timed
+    fn timed_of(&self, w: &Widths, mark: Marked) -> Timed
         requires widths { AreWidths w.now }
         requires mark { IsMarked mark }
         ensures { result ≡ timed_of w.now self.now mark }
@@ -241,7 +242,7 @@ impl Rows {
     }
 
     /// Times one more instruction.
-    pub(crate) fn push(&mut self, w: &Widths, mark: Marked)
+    fn push(&mut self, w: &Widths, mark: Marked)
         requires widths { AreWidths w.now }
         requires mark { IsMarked mark }
         requires room { length self.old < 110000 }
@@ -249,5 +250,18 @@ impl Rows {
     {
         let timed = self.timed_of(w, mark);
         self.timed.push_reserved(timed);
+    }
+
+    /// Times a whole trace, whatever was there before.
+    pub(crate) fn time_all<T: Trace>(&mut self, w: &Widths, trace: &T)
+        requires widths { AreWidths w.now }
+        requires few { length (T.items trace.now) ≤ 110000 }
+        requires marks { All IsMarked (T.items trace.now) }
+        ensures { self.new ≡ times w.now (T.items trace.now) }
+    {
+        self.clear();
+        for i in 0..trace.len() {
+            self.push(w, trace.at(i));
+        }
     }
 }

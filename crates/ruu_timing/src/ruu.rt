@@ -49,11 +49,7 @@ impl Ruu {
         ensures most { length (T.items trace.now) ≤ skip + 10000 → result < 2 ^ 26 }
         ensures widths { self.new ≡ self.old }
     {
-        let len = trace.len();
-        self.rows.clear();
-        for i in 0..len {
-            self.rows.push(&self.widths, trace.at(i));
-        }
-        self.rows.retirement_back(1) - self.rows.retirement_back(len - skip + 1)
+        self.rows.time_all(&self.widths, trace);
+        self.rows.retirement_back(1) - self.rows.retirement_back(trace.len() - skip + 1)
     }
 }
