@@ -1,9 +1,9 @@
 -- Every time of a trace is within its bound.
-use Rattle.std.proofs.Common.{◌≡◌, ◌+◌, ◌-◌, ◌*◌, ◌^◌, ◌<◌, ◌≤◌, ℕ, Bool, true, false, zero, suc, cond, List, [], ◌∷◌, length, Option, Some, None, refl, sym, arith, max, Bor, option_copied, subst}
+use Rattle.std.proofs.Common.{◌≡◌, ◌+◌, ◌*◌, ◌^◌, ◌<◌, ◌≤◌, ℕ, Bool, true, false, zero, suc, cond, List, [], ◌∷◌, length, Option, Some, None, refl, sym, arith, Bor, option_copied, subst}
 use Rattle.std.specs.Option.{IfSome}
 use Rattle.std.specs.List.{slice_get, filter, find}
 use Rattle.ruu_timing.specs.declared.timed.Timed.{Timed}
-use Rattle.ruu_timing.specs.Times.{back, time_of}
+use Rattle.ruu_timing.specs.Times.{time_of}
 use Rattle.ruu_timing.specs.Rows.{Each, IsWithin, AreTimed, AreInOrder, last_of}
 
 -- what holds of each holds of those that are found, picked or left

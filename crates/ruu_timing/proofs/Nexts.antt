@@ -1,8 +1,8 @@
 -- One more instruction of a trace keeps what holds of the times.
-use Rattle.std.proofs.Common.{◌≡◌, ◌+◌, ◌-◌, ◌*◌, ◌<◌, ◌≤◌, ℕ, Bool, true, false, if◌then◌else◌, zero, suc, List, [], ◌∷◌, ◌++◌, length, take, max, Option, Some, None, refl, sym, ◌∙◌, ap, arith}
+use Rattle.std.proofs.Common.{◌≡◌, ◌+◌, ◌-◌, ◌<◌, ◌≤◌, ℕ, Bool, true, false, if◌then◌else◌, List, [], ◌∷◌, ◌++◌, length, max, Option, Some, None, refl, arith}
 use Rattle.std.specs.Option.{IfSome}
 use Rattle.std.proofs.lemmas.Bool.{leb-true, and_parts}
-use Rattle.std.specs.List.{slice_get, filter, find}
+use Rattle.std.specs.List.{find}
 use Rattle.smarts_base.specs.Least.{IsLeast}
 use Rattle.rv_isa.specs.declared.roles.Class.{Class}
 use Rattle.hierarchy.specs.declared.marked.Marked.{Marked}
@@ -11,8 +11,8 @@ use Rattle.hierarchy.specs.Widths.{AreWidths}
 use Rattle.hierarchy.specs.Marked.{IsMarked, accesses_memory}
 use Rattle.ruu_timing.specs.declared.timed.Timed.{Timed}
 use Rattle.ruu_timing.specs.Class.{is_ecall, is_load}
-use Rattle.ruu_timing.specs.Times.{back, time_of, next_fetch, fetch_of, dispatch_of, memory_ones, accesses, writes, stores_to, written, stored, ready_of, issue_of, retirement_of, timed_of, timed_after, times}
-use Rattle.ruu_timing.specs.Rows.{Each, IsWithin, AreTimed, AreInOrder, IsRetiredAfter, last_of}
+use Rattle.ruu_timing.specs.Times.{back, time_of, next_fetch, fetch_of, dispatch_of, memory_ones, accesses, writes, stores_to, written, stored, ready_of, issue_of, retirement_of, timed_of, timed_after}
+use Rattle.ruu_timing.specs.Rows.{IsWithin, AreTimed, IsRetiredAfter, last_of}
 use Rattle.ruu_timing.proofs.Bounds.{each_get, each_filter, each_find, each_more, within_more, retired, retired_in_order}
 use Rattle.ruu_timing.proofs.Slots.{issue_is_least, free_of, may_issue}
 

@@ -1,16 +1,16 @@
 -- An issue time is the least cycle with a slot: from the last retirement on each cycle has one.
-use Rattle.std.proofs.Common.{◌≡◌, ◌+◌, ◌-◌, ◌*◌, ◌<◌, ◌≤◌, ◌==◌, ◌&&◌, ℕ, Bool, true, false, zero, suc, cond, List, [], ◌∷◌, length, filter, nat_le, nat_lt, max, Option, Some, None, refl, sym, ◌∙◌, ap, arith, inl, inr}
-use Rattle.std.proofs.lemmas.Bool.{le-leb, lt-ltb, cases_lt, lt-leb, ne_eqb, false≢true}
+use Rattle.std.proofs.Common.{◌≡◌, ◌+◌, ◌<◌, ◌≤◌, ◌==◌, ◌&&◌, ℕ, Bool, true, false, List, [], ◌∷◌, filter, nat_le, nat_lt, max, Option, Some, None, refl, sym, ◌∙◌, arith, inl, inr}
+use Rattle.std.proofs.lemmas.Bool.{le-leb, lt-ltb, cases_lt, ne_eqb, false≢true}
 use Rattle.std.specs.Option.{unwrap_or}
-use Rattle.smarts_base.specs.Least.{least_below, IsLeast, IsLeastIfAny, NonePasses}
+use Rattle.smarts_base.specs.Least.{least_below, IsLeast, IsLeastIfAny}
 use Rattle.smarts_base.proofs.Leasts.{least_below_is, least_below_some}
 use Rattle.rv_isa.specs.declared.roles.Class.{Class}
 use Rattle.rv_isa.specs.declared.roles.Class.TheVariants.{Alu, Mul, Div, Load, Store, Control, Ecall}
 use Rattle.hierarchy.specs.declared.widths.Widths.{Widths}
 use Rattle.hierarchy.specs.Widths.{AreWidths}
 use Rattle.ruu_timing.specs.declared.timed.Timed.{Timed}
-use Rattle.ruu_timing.specs.Class.{limit_of, is_same}
-use Rattle.ruu_timing.specs.Times.{back, time_of, has_slot, issue_of, issues_at, issues_alike}
+use Rattle.ruu_timing.specs.Class.{limit_of}
+use Rattle.ruu_timing.specs.Times.{has_slot, issue_of, issues_at, issues_alike}
 use Rattle.ruu_timing.specs.Rows.{Each, IsWithin, AreTimed, last_of}
 
 none_left : {X : Type 0} (test : X → Bool) (xs : List X) → Each (λ x. test x ≡ false) xs → filter test xs ≡ []

@@ -1,5 +1,5 @@
 -- What the classes of instructions differ in.
-use Rattle.std.specs.Prelude.{ℕ, Bool, true, false, ◌==◌}
+use Rattle.std.specs.Prelude.{ℕ, Bool, ◌==◌}
 use Rattle.rv_isa.specs.declared.roles.Class.{Class}
 use Rattle.rv_isa.specs.declared.roles.Class.TheVariants.{Alu, Mul, Div, Load, Store, Control, Ecall}
 use Rattle.hierarchy.specs.declared.widths.Widths.{Widths}

@@ -1,6 +1,6 @@
 -- The times of an instruction as formulas over the instructions before it, which stand in lists
 -- with the latest first. What isn't there counts 0 and so drops out of a maximum.
-use Rattle.std.specs.Prelude.{ℕ, ◌+◌, ◌-◌, ◌==◌, ◌&&◌, nat_lt, nat_le, max, if◌then◌else◌, Bool, true, false, Option, Some, None, List, [], ◌∷◌, length}
+use Rattle.std.specs.Prelude.{ℕ, ◌+◌, ◌-◌, ◌==◌, ◌&&◌, nat_lt, nat_le, max, if◌then◌else◌, Bool, false, Option, Some, None, List, [], ◌∷◌, length}
 use Rattle.std.specs.List.{slice_get, filter, find}
 use Rattle.std.specs.Option.{unwrap_or}
 use Rattle.smarts_base.specs.Least.{least_below}

@@ -1,4 +1,4 @@
-use Rattle.std.proofs.Common.{◌≡◌, ◌+◌, ◌≤◌, ◌∙◌, false, true, sym, reverse, arith}
+use Rattle.std.proofs.Common.{◌≡◌, ◌+◌, ◌≤◌, ◌∙◌, false, sym, reverse, arith}
 use Rattle.ruu_timing.specs.Times.{has_slot}
 use Rattle.ruu_timing.proofs.Slots.{free_of, none_more, before_free, issue_found}
 use Rattle.ruu_timing.proofs.earlier.first_slot.Goals as goal

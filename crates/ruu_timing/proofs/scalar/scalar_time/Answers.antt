@@ -1,6 +1,5 @@
 use Rattle.std.proofs.Common.{◌≡◌, ◌+◌, ◌-◌, ◌*◌, ◌≤◌, List, length, arith}
 use Rattle.hierarchy.specs.declared.marked.Marked.{Marked}
-use Rattle.hierarchy.specs.declared.widths.Latencies.{Latencies}
 use Rattle.ruu_timing.specs.Scalar.{scalar_cycles, scalar_latency}
 use Rattle.ruu_timing.proofs.Scalars.{one_fewer, none_left, scalar_within}
 use Rattle.ruu_timing.proofs.scalar.scalar_time.Goals as goal

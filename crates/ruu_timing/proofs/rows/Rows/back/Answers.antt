@@ -1,7 +1,6 @@
-use Rattle.std.proofs.Common.{◌^◌, ◌-◌, reverse}
-use Rattle.ruu_timing.specs.Rows.{IsWithin, AreTimed}
-use Rattle.ruu_timing.specs.Times.{writes, stores_to, accesses}
-use Rattle.ruu_timing.proofs.Bounds.{small, small_back, each_find, each_get, each_filter, lent_small}
+use Rattle.std.proofs.Common.{◌-◌, reverse}
+use Rattle.ruu_timing.specs.Rows.{AreTimed}
+use Rattle.ruu_timing.proofs.Bounds.{small_back, lent_small}
 use Rattle.ruu_timing.proofs.rows.Rows.back.Goals as goal
 
 pub returns-clause-within : goal.returns-clause-within

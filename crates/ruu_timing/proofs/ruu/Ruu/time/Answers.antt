@@ -1,7 +1,7 @@
-use Rattle.std.proofs.Common.{◌≡◌, ◌+◌, ◌-◌, ◌<◌, ◌≤◌, List, length, refl, ◌∙◌, ap, arith}
+use Rattle.std.proofs.Common.{◌≡◌, ◌+◌, ◌-◌, ◌<◌, List, length, refl, ◌∙◌, ap, arith}
 use Rattle.hierarchy.specs.declared.marked.Marked.{Marked}
 use Rattle.ruu_timing.specs.declared.timed.Timed.{Timed}
-use Rattle.ruu_timing.specs.Times.{times, cycles}
+use Rattle.ruu_timing.specs.Times.{cycles}
 use Rattle.ruu_timing.proofs.Totals.{length_times, total_known, total_least, total_most}
 use Rattle.ruu_timing.proofs.ruu.Ruu.time.Goals as goal
 
