@@ -178,8 +178,11 @@ pub next_timed :
 next_timed w earlier m widths marked timed few =
     let next = next_times w earlier m widths marked timed in
     record {
-      each = (next.0, each_more (IsWithin (last_of earlier)) (IsWithin (timed_of w earlier m).retirement)
-          (within_more (last_of earlier) (timed_of w earlier m).retirement next.1.rises) earlier timed.each);
+      each = (
+        next.0,
+        each_more (IsWithin (last_of earlier)) (IsWithin (timed_of w earlier m).retirement)
+            (within_more (last_of earlier) (timed_of w earlier m).retirement next.1.rises) earlier timed.each,
+      );
       order = (next.1, timed.order);
       few = omega arith;
     }

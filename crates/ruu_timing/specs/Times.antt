@@ -24,16 +24,16 @@ time_of time (Some x) = time x
 abbrev pub next_fetch : Widths → Timed → ℕ
 next_fetch w x =
     max (if x.mark.transferred then x.fetch + 1 else x.fetch)
-        (max (if x.mark.mispredicted then x.completion + w.penalty else 0)
-             (if is_ecall x.mark.class then x.retirement + 1 else 0))
+    (max (if x.mark.mispredicted then x.completion + w.penalty else 0)
+    (if is_ecall x.mark.class then x.retirement + 1 else 0))
 
 -- fetch waits for its predecessor, for a place in the fetch queue and for the fetch width, and
 -- then for the instruction caches
 unfoldable pub fetch_of : Widths → List Timed → Marked → ℕ
 fetch_of w earlier m =
     max (time_of (next_fetch w) (back earlier 1))
-        (max (time_of (λ x. x.dispatch) (back earlier w.queue))
-             (time_of (λ x. x.fetch + 1) (back earlier w.fetch)))
+    (max (time_of (λ x. x.dispatch) (back earlier w.queue))
+    (time_of (λ x. x.fetch + 1) (back earlier w.fetch)))
     + m.stall
 
 -- the loads and stores among the instructions
@@ -49,12 +49,12 @@ memory_ones earlier = filter (λ x. accesses x) earlier
 unfoldable pub dispatch_of : Widths → List Timed → Marked → ℕ → ℕ
 dispatch_of w earlier m fetch =
     max (max (fetch + 1)
-             (max (time_of (λ x. x.dispatch) (back earlier 1))
-                  (time_of (λ x. x.dispatch + 1) (back earlier w.dispatch))))
-        (max (time_of (λ x. x.retirement) (back earlier w.ruu))
-             (max (if accesses_memory m.class
-                   then time_of (λ x. x.retirement) (back (memory_ones earlier) w.lsq) else 0)
-                  (if is_ecall m.class then time_of (λ x. x.retirement) (back earlier 1) else 0)))
+    (max (time_of (λ x. x.dispatch) (back earlier 1))
+    (time_of (λ x. x.dispatch + 1) (back earlier w.dispatch))))
+    (max (time_of (λ x. x.retirement) (back earlier w.ruu))
+    (max (if accesses_memory m.class
+    then time_of (λ x. x.retirement) (back (memory_ones earlier) w.lsq) else 0)
+    (if is_ecall m.class then time_of (λ x. x.retirement) (back earlier 1) else 0)))
 
 -- whether this is a given number
 abbrev pub is_given : Option ℕ → ℕ → Bool
@@ -83,7 +83,7 @@ stored earlier (Some word) =
 unfoldable pub ready_of : List Timed → Marked → ℕ → ℕ
 ready_of earlier m dispatch =
     max (max (dispatch + 1) (if is_load m.class then stored earlier m.word else 0))
-        (max (written earlier m.first) (written earlier m.second))
+    (max (written earlier m.first) (written earlier m.second))
 
 abbrev pub issues_at : ℕ → Timed → Bool
 issues_at t x = x.issue == t
@@ -108,8 +108,8 @@ issue_of w earlier class ready =
 unfoldable pub retirement_of : Widths → List Timed → ℕ → ℕ
 retirement_of w earlier completion =
     max (completion + 1)
-        (max (time_of (λ x. x.retirement) (back earlier 1))
-             (time_of (λ x. x.retirement + 1) (back earlier w.retire)))
+    (max (time_of (λ x. x.retirement) (back earlier 1))
+    (time_of (λ x. x.retirement + 1) (back earlier w.retire)))
 
 unfoldable pub timed_of : Widths → List Timed → Marked → Timed
 timed_of w earlier m =

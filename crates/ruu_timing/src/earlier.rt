@@ -65,7 +65,11 @@ pub(crate) fn issued_at(earlier: &[Timed], t: u64) -> usize
 pub(crate) fn issued_alike(earlier: &[Timed], class: Class, t: u64) -> usize
     ensures { result ≡ length (filter (λ x. issues_alike class t x) (reverse earlier.now)) }
 {
-    earlier.iter().rev().filter(|x| issues_alike(x, class, t)).count()
+    earlier
+        .iter()
+        .rev()
+        .filter(|x| issues_alike(x, class, t))
+        .count()
 }
 
 /// The load or store behind which `n` further ones of these follow.

@@ -14,3 +14,6 @@ pub use ruu::Ruu;
 pub use scalar::scalar_time;
 pub use timed::Timed;
 pub use trace::{SliceTrace, Trace};
+
+#[cfg(test)]
+mod tests;

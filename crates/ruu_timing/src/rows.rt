@@ -44,9 +44,21 @@ fn next_fetch(w: &Widths, x: &Timed) -> u64
     ensures value { result ≡ next_fetch w.now x.now }
     ensures bound { result ≤ 2 ^ 33 }
 {
-    let after_fetch = if x.mark.transferred { x.fetch + 1 } else { x.fetch };
-    let after_wrong = if x.mark.mispredicted { x.completion + u64::from(w.penalty) } else { 0 };
-    let after_call = if is_ecall(x.mark.class) { x.retirement + 1 } else { 0 };
+    let after_fetch = if x.mark.transferred {
+        x.fetch + 1
+    } else {
+        x.fetch
+    };
+    let after_wrong = if x.mark.mispredicted {
+        x.completion + u64::from(w.penalty)
+    } else {
+        0
+    };
+    let after_call = if is_ecall(x.mark.class) {
+        x.retirement + 1
+    } else {
+        0
+    };
     after_fetch.max(after_wrong.max(after_call))
 }
 
@@ -54,7 +66,9 @@ impl Rows {
     pub(crate) fn new(alloc: Global) -> Result<Rows, NoMemory>
         ensures { IfOk result (λ rows. rows ≡ []) }
     {
-        Ok(Rows { timed: Vec::with_capacity(alloc, MOST)? })
+        Ok(Rows {
+            timed: Vec::with_capacity(alloc, MOST)?,
+        })
     }
 
     fn clear(&mut self)
@@ -146,8 +160,16 @@ impl Rows {
             None => 0,
         };
         let in_order = (fetch + 1).max(self.dispatch_back(1).max(width));
-        let memory = if accesses_memory(mark.class) { self.access_back(w.lsq) } else { 0 };
-        let call = if is_ecall(mark.class) { self.retirement_back(1) } else { 0 };
+        let memory = if accesses_memory(mark.class) {
+            self.access_back(w.lsq)
+        } else {
+            0
+        };
+        let call = if is_ecall(mark.class) {
+            self.retirement_back(1)
+        } else {
+            0
+        };
         in_order.max(self.retirement_back(w.ruu as usize).max(memory.max(call)))
     }
 
@@ -193,7 +215,11 @@ impl Rows {
         ensures value { result ≡ ready_of self.now mark.now dispatch }
         ensures bound { result ≤ 2 ^ 36 }
     {
-        let memory = if is_load(mark.class) { self.stored(mark.word) } else { 0 };
+        let memory = if is_load(mark.class) {
+            self.stored(mark.word)
+        } else {
+            0
+        };
         let registers = self.written(mark.first).max(self.written(mark.second));
         (dispatch + 1).max(memory).max(registers)
     }

@@ -12,6 +12,7 @@ invariant_of-self c =
     let same : earlier ≡ c.args.self.now = c.self.view_is in
     let room : length earlier < 110000 = rw same c.requires.room in
     let next : AreTimed (timed_of c.args.w.now earlier c.args.mark ∷ earlier) =
-    next_timed c.args.w.now earlier c.args.mark c.requires.widths c.requires.mark c.self.invariant.1 room in
-    (omega (arith, c.self.invariant.0, c.push_reserved.ensures.capacity),
-    rw (c.push_reserved.ensures.items, c.timed_of-timed.ensures, reverse-append, ← same) next)
+    next_timed c.args.w.now earlier c.args.mark c.requires.widths c.requires.mark c.self.invariant.1 room in (
+      omega (arith, c.self.invariant.0, c.push_reserved.ensures.capacity),
+      rw (c.push_reserved.ensures.items, c.timed_of-timed.ensures, reverse-append, ← same) next,
+    )
