@@ -1,6 +1,6 @@
 -- An issue time is the least cycle with a slot: from the last retirement on each cycle has one.
 use Rattle.std.proofs.Common.{◌≡◌, ◌+◌, ◌<◌, ◌≤◌, ◌==◌, ◌&&◌, ℕ, Bool, true, false, List, [], ◌∷◌, filter, nat_le, nat_lt, max, Option, Some, None, refl, sym, ◌∙◌, arith, inl, inr}
-use Rattle.std.proofs.lemmas.Bool.{le-leb, lt-ltb, cases_lt, ne_eqb, false≢true}
+use Rattle.std.proofs.lemmas.Bool.{le-leb, lt-ltb, cases_lt, ne_eqb, false≢true, and_parts, leb-true}
 use Rattle.std.specs.Option.{unwrap_or}
 use Rattle.smarts_base.specs.Least.{least_below, IsLeast, IsLeastIfAny}
 use Rattle.smarts_base.proofs.Leasts.{least_below_is, least_below_some}
@@ -10,6 +10,7 @@ use Rattle.hierarchy.specs.declared.widths.Widths.{Widths}
 use Rattle.hierarchy.specs.Widths.{AreWidths}
 use Rattle.ruu_timing.specs.declared.timed.Timed.{Timed}
 use Rattle.ruu_timing.specs.Class.{limit_of}
+use Rattle.ruu_timing.specs.Laws.{IsFirstSlot}
 use Rattle.ruu_timing.specs.Times.{has_slot, issue_of, issues_at, issues_alike}
 use Rattle.ruu_timing.specs.Rows.{Each, IsWithin, AreTimed, last_of}
 
@@ -116,3 +117,17 @@ before_free w earlier class ready t widths timed start end slot =
       | inl lt ↦ omega arith
       | inr ge ↦ absurd (false≢true (sym slot ∙ free_slot w earlier class t widths timed ge))
     ]
+
+-- the same with no bound on the cycle
+pub first_slot_is :
+    (w : Widths) (earlier : List Timed) (class : Class) (ready t : ℕ)
+    → IsLeast (free_of earlier ready + 1) (may_issue w earlier class ready) t → IsFirstSlot w earlier class ready t
+first_slot_is w earlier class ready t least =
+    let parts = and_parts (nat_le ready t) (has_slot w earlier class t) least.passes in
+    record {
+      start = leb-true ready t parts.0;
+      slot = parts.1;
+      first = λ k from below.
+          let late : nat_le ready k ≡ true = le-leb ready k from in
+          rw late at (least.first k below);
+    }

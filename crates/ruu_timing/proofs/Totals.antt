@@ -1,5 +1,5 @@
 -- The times of the first instructions of a trace, and the cycles between two of them.
-use Rattle.std.proofs.Common.{◌≡◌, ◌+◌, ◌-◌, ◌*◌, ◌^◌, ◌<◌, ◌≤◌, ℕ, List, [], ◌∷◌, ◌++◌, length, take, All, Some, sym, ◌∙◌, ap, subst, arith}
+use Rattle.std.proofs.Common.{◌≡◌, ◌+◌, ◌-◌, ◌*◌, ◌^◌, ◌<◌, ◌≤◌, ℕ, suc, List, [], ◌∷◌, ◌++◌, length, take, All, Some, sym, ◌∙◌, ap, subst, arith}
 use Rattle.std.specs.List.{slice_get}
 use Rattle.std.proofs.lemmas.List.{take_more, take_all, length-take-le}
 use Rattle.std.proofs.lemmas.List.Elements.{All-get_or}
@@ -8,10 +8,13 @@ use Rattle.hierarchy.specs.declared.marked.Marked.{Marked}
 use Rattle.hierarchy.specs.declared.widths.Widths.{Widths}
 use Rattle.hierarchy.specs.Marked.{IsMarked}
 use Rattle.ruu_timing.specs.declared.timed.Timed.{Timed}
-use Rattle.ruu_timing.specs.Times.{back, time_of, timed_of, times}
-use Rattle.ruu_timing.specs.Rows.{AreTimed}
+use Rattle.hierarchy.specs.Widths.{AreWidths}
+use Rattle.ruu_timing.specs.Laws.{IssuesAtFirst}
+use Rattle.ruu_timing.proofs.Slots.{issue_is_least, first_slot_is}
+use Rattle.ruu_timing.specs.Times.{back, time_of, issue_of, timed_of, timed_after, times}
+use Rattle.ruu_timing.specs.Rows.{Each, AreTimed}
 use Rattle.ruu_timing.proofs.Bounds.{retired, retired_in_order, retired_soon, retired_wide}
-use Rattle.ruu_timing.proofs.Nexts.{times_behind, length_after}
+use Rattle.ruu_timing.proofs.Nexts.{next_timed, times_behind, length_after}
 
 pub times_more :
     (w : Widths) (ms : List Marked) (i : ℕ) (m : Marked) → slice_get ms i ≡ Some m
@@ -61,3 +64,25 @@ pub total_most :
 total_most rows k timed le =
     let h : retired rows 0 ≤ retired rows (k - 1) + 4096 * (k - 1) = retired_soon rows (k - 1) timed.order in
     omega arith
+
+-- every trace has times within their bounds
+after_timed :
+    (w : Widths) (earlier : List Timed) (ms : List Marked) → AreWidths w → AreTimed earlier
+    → length earlier + length ms ≤ 110000 → Each IsMarked ms → AreTimed (timed_after w earlier ms)
+unfolding timed_after
+after_timed w earlier [] widths timed few marks = timed
+after_timed w earlier (m ∷ ms) widths timed few marks =
+    after_timed w (timed_of w earlier m ∷ earlier) ms widths
+    (next_timed w earlier m widths marks.0 timed (omega arith)) (omega arith) marks.1
+
+each_of : {X : Type 0} (P : X → Type 0) (xs : List X) → All P xs → Each P xs
+each_of P [] all = tt
+each_of P (x ∷ xs) all =
+    (all 0 x (omega arith), each_of P xs (λ k d below. all (suc k) d (omega arith)))
+
+pub issues_at_first : IssuesAtFirst
+issues_at_first w ms class ready widths few marks =
+    let none : AreTimed [] = record { each = tt; order = tt; few = omega arith } in
+    let timed : AreTimed (times w ms) = after_timed w [] ms widths none (omega arith) (each_of IsMarked ms marks) in
+    first_slot_is w (times w ms) class ready (issue_of w (times w ms) class ready)
+    (issue_is_least w (times w ms) class ready widths timed)

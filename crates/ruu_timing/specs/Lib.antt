@@ -1,4 +1,5 @@
 pub mod Class
+pub mod Laws
 pub mod Rows
 pub mod Scalar
 pub mod Times

@@ -4,12 +4,14 @@
 
 mod class;
 mod earlier;
+mod laws;
 mod rows;
 mod ruu;
 mod scalar;
 mod timed;
 mod trace;
 
+pub use laws::issue_law;
 pub use ruu::Ruu;
 pub use scalar::scalar_time;
 pub use timed::Timed;
