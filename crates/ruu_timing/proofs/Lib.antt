@@ -1,0 +1,5 @@
+pub mod Bounds
+pub mod Slots
+pub mod Nexts
+pub mod Totals
+pub mod Scalars

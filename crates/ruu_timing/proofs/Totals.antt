@@ -1,0 +1,88 @@
+-- The times of the first instructions of a trace, and the cycles between two of them.
+use Rattle.std.proofs.Common.{◌≡◌, ◌+◌, ◌-◌, ◌*◌, ◌^◌, ◌<◌, ◌≤◌, ℕ, suc, List, [], ◌∷◌, ◌++◌, length, take, All, Some, sym, ◌∙◌, ap, subst, arith}
+use Rattle.std.specs.List.{slice_get}
+use Rattle.std.proofs.lemmas.List.{take_more, take_all, length-take-le}
+use Rattle.std.proofs.lemmas.List.Elements.{All-get_or}
+use Rattle.std.proofs.lemmas.Option.{slice_get_within, get_or_from_slice_get}
+use Rattle.hierarchy.specs.declared.marked.Marked.{Marked}
+use Rattle.hierarchy.specs.declared.widths.Widths.{Widths}
+use Rattle.hierarchy.specs.Marked.{IsMarked}
+use Rattle.ruu_timing.specs.declared.timed.Timed.{Timed}
+use Rattle.hierarchy.specs.Widths.{AreWidths}
+use Rattle.ruu_timing.specs.Laws.{IssuesAtFirst}
+use Rattle.ruu_timing.proofs.Slots.{issue_is_least, first_slot_is}
+use Rattle.ruu_timing.specs.Times.{back, time_of, issue_of, timed_of, timed_after, times}
+use Rattle.ruu_timing.specs.Rows.{Each, AreTimed}
+use Rattle.ruu_timing.proofs.Bounds.{retired, retired_in_order, retired_soon, retired_wide}
+use Rattle.ruu_timing.proofs.Nexts.{next_timed, times_behind, length_after}
+
+pub times_more :
+    (w : Widths) (ms : List Marked) (i : ℕ) (m : Marked) → slice_get ms i ≡ Some m
+    → timed_of w (times w (take i ms)) m ∷ times w (take i ms) ≡ times w (take (i + 1) ms)
+times_more w ms i m there =
+    let within : i < length ms = slice_get_within ms i m there in
+    let more : take (i + 1) ms ≡ take i ms ++ m ∷ [] =
+    take_more ms i m within ∙ ap (λ (x : Marked). take i ms ++ x ∷ []) (get_or_from_slice_get ms i m m there) in
+    rw more (sym (times_behind w [] (take i ms) m))
+
+pub marked_at :
+    (ms : List Marked) (i : ℕ) (m : Marked) → slice_get ms i ≡ Some m → All IsMarked ms → IsMarked m
+marked_at ms i m there marks =
+    let within : i < length ms = slice_get_within ms i m there in
+    subst IsMarked (get_or_from_slice_get ms i m m there) (All-get_or IsMarked ms i m within marks)
+
+pub length_times : (w : Widths) (ms : List Marked) → length (times w ms) ≡ length ms
+length_times w ms = omega (arith, length_after w [] ms)
+
+pub few_times :
+    (w : Widths) (ms : List Marked) (i : ℕ) (rows : List Timed) → i ≤ length ms → rows ≡ times w (take i ms)
+    → length rows ≡ i
+few_times w ms i rows le same = rw same (length_times w (take i ms) ∙ length-take-le i ms le)
+
+pub whole_times :
+    (w : Widths) (ms : List Marked) (i : ℕ) (rows : List Timed) → length ms ≤ i → rows ≡ times w (take i ms)
+    → rows ≡ times w ms
+whole_times w ms i rows le same = same ∙ ap (λ (l : List Marked). times w l) (take_all i ms le)
+
+-- from the one k back to the last
+abbrev pub retired_back : List Timed → ℕ → ℕ
+retired_back rows k = time_of (λ x. x.retirement) (back rows k)
+
+pub total_known : (rows : List Timed) (k : ℕ) → AreTimed rows → 1 ≤ k → retired_back rows k ≤ retired_back rows 1
+total_known rows k timed le = retired_in_order rows 0 (k - 1) timed.order (omega arith)
+
+pub total_least :
+    (rows : List Timed) (k : ℕ) → AreTimed rows → 0 < length rows → 17 ≤ k
+    → 1 ≤ retired_back rows 1 - retired_back rows k
+total_least rows k timed some le =
+    let h : retired rows (k - 1) < retired rows 0 = retired_wide rows (k - 1) timed.order (omega arith) some in
+    omega arith
+
+pub total_most :
+    (rows : List Timed) (k : ℕ) → AreTimed rows → k ≤ 10001
+    → retired_back rows 1 - retired_back rows k < 2 ^ 26
+total_most rows k timed le =
+    let h : retired rows 0 ≤ retired rows (k - 1) + 4096 * (k - 1) = retired_soon rows (k - 1) timed.order in
+    omega arith
+
+-- every trace has times within their bounds
+after_timed :
+    (w : Widths) (earlier : List Timed) (ms : List Marked) → AreWidths w → AreTimed earlier
+    → length earlier + length ms ≤ 110000 → Each IsMarked ms → AreTimed (timed_after w earlier ms)
+unfolding timed_after
+after_timed w earlier [] widths timed few marks = timed
+after_timed w earlier (m ∷ ms) widths timed few marks =
+    after_timed w (timed_of w earlier m ∷ earlier) ms widths
+    (next_timed w earlier m widths marks.0 timed (omega arith)) (omega arith) marks.1
+
+each_of : {X : Type 0} (P : X → Type 0) (xs : List X) → All P xs → Each P xs
+each_of P [] all = tt
+each_of P (x ∷ xs) all =
+    (all 0 x (omega arith), each_of P xs (λ k d below. all (suc k) d (omega arith)))
+
+pub issues_at_first : IssuesAtFirst
+issues_at_first w ms class ready widths few marks =
+    let none : AreTimed [] = record { each = tt; order = tt; few = omega arith } in
+    let timed : AreTimed (times w ms) = after_timed w [] ms widths none (omega arith) (each_of IsMarked ms marks) in
+    first_slot_is w (times w ms) class ready (issue_of w (times w ms) class ready)
+    (issue_is_least w (times w ms) class ready widths timed)

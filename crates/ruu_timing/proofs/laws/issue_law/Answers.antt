@@ -1,0 +1,5 @@
+use Rattle.ruu_timing.proofs.Totals.{issues_at_first}
+use Rattle.ruu_timing.proofs.laws.issue_law.Goals as goal
+
+pub returns : goal.returns
+returns c = issues_at_first

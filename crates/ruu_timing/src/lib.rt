@@ -1,0 +1,21 @@
+//! When each instruction of a trace is fetched, dispatched, issued, completed and retired in a
+//! processor with a register update unit, and the cycles that a stretch of the trace takes.
+#![tactic(auto)]
+
+mod class;
+mod earlier;
+mod laws;
+mod rows;
+mod ruu;
+mod scalar;
+mod timed;
+mod trace;
+
+pub use laws::issue_law;
+pub use ruu::Ruu;
+pub use scalar::scalar_time;
+pub use timed::Timed;
+pub use trace::{SliceTrace, Trace};
+
+#[cfg(test)]
+mod tests;

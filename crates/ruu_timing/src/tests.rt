@@ -1,0 +1,644 @@
+ghost use Rattle.std.specs.Prelude.{◌≤◌, ◌<◌, length, All};
+ghost use Rattle.std.specs.Bool.{OnTrue};
+ghost use Rattle.hierarchy.specs.Widths.{AreWidths, AreLatencies};
+ghost use Rattle.hierarchy.specs.Marked.{IsMarked};
+ghost use Rattle.ruu_timing.specs.Trace.{IsTrace};
+
+use super::*;
+use crate::class::accesses_memory;
+use crate::rows::Rows;
+use hierarchy::{Latencies, Marked, Widths};
+use rv_isa::Class;
+use std::alloc::Global;
+use std::test::Fail;
+
+const WIDTHS: Widths = Widths {
+    fetch: 4,
+    dispatch: 4,
+    issue: 4,
+    retire: 4,
+    queue: 8,
+    ruu: 32,
+    lsq: 16,
+    penalty: 6,
+    alus: 4,
+    muls: 1,
+    divs: 1,
+    loads: 2,
+    stores: 1,
+    branches: 1,
+};
+
+const NARROW: Widths = Widths {
+    fetch: 2,
+    dispatch: 2,
+    issue: 2,
+    retire: 2,
+    queue: 4,
+    ruu: 8,
+    lsq: 4,
+    penalty: 3,
+    alus: 2,
+    muls: 2,
+    divs: 2,
+    loads: 2,
+    stores: 2,
+    branches: 2,
+};
+
+const LATENCIES: Latencies = Latencies {
+    mul: 3,
+    div: 20,
+    l1: 2,
+    l2: 10,
+    mem: 100,
+    tlb: 30,
+};
+
+const ALU: Marked = Marked {
+    class: Class::Alu,
+    first: None,
+    second: None,
+    dest: None,
+    word: None,
+    stall: 0,
+    latency: 1,
+    mispredicted: false,
+    transferred: false,
+};
+
+const MUL: Marked = Marked {
+    class: Class::Mul,
+    latency: 3,
+    ..ALU
+};
+
+const DIV: Marked = Marked {
+    class: Class::Div,
+    latency: 20,
+    ..ALU
+};
+
+const LOAD: Marked = Marked {
+    class: Class::Load,
+    word: Some(100),
+    latency: 2,
+    ..ALU
+};
+
+const STORE: Marked = Marked {
+    class: Class::Store,
+    word: Some(100),
+    ..ALU
+};
+
+const JUMP: Marked = Marked {
+    class: Class::Control,
+    ..ALU
+};
+
+const CALL: Marked = Marked {
+    class: Class::Ecall,
+    ..ALU
+};
+
+fn is_width(width: u32, most: u32) -> bool
+    ensures { OnTrue result ((1 ≤ width) × (width ≤ most)) }
+{
+    1 <= width && width <= most
+}
+
+fn are_widths(w: &Widths) -> bool
+    ensures { OnTrue result (AreWidths w.now) }
+{
+    is_width(w.fetch, 8)
+        && is_width(w.dispatch, 8)
+        && is_width(w.issue, 8)
+        && is_width(w.retire, 8)
+        && is_width(w.queue, 32)
+        && 4 <= w.ruu
+        && w.ruu <= 256
+        && 2 <= w.lsq
+        && w.lsq <= 128
+        && w.lsq <= w.ruu
+        && is_width(w.penalty, 64)
+        && is_width(w.alus, 8)
+        && is_width(w.muls, 8)
+        && is_width(w.divs, 8)
+        && is_width(w.loads, 8)
+        && is_width(w.stores, 8)
+        && is_width(w.branches, 8)
+}
+
+fn is_marked(m: &Marked) -> bool
+    ensures { OnTrue result (IsMarked m.now) }
+{
+    m.stall <= 1200
+        && 1 <= m.latency
+        && m.latency <= 1216
+        && m.word.is_some() == accesses_memory(m.class)
+}
+
+fn are_marked(items: &[Marked]) -> bool
+    ensures { OnTrue result (All IsMarked items.now) }
+{
+    for m in items {
+        if !is_marked(m) {
+            return false;
+        }
+    }
+    true
+}
+
+fn is_trace(items: &[Marked], skip: usize) -> bool
+    ensures { OnTrue result (IsTrace items.now skip) }
+{
+    skip < items.len() && items.len() <= 110_000 && are_marked(items)
+}
+
+/// The cycles from `skip` on.
+fn cycles(alloc: Global, widths: &Widths, items: &[Marked], skip: usize) -> Result<u64, Fail> {
+    if !are_widths(widths) || !is_trace(items, skip) {
+        return Err(Fail::from("no such trace"));
+    }
+    Ok(Ruu::new(alloc, widths)?.time(&SliceTrace { items }, skip))
+}
+
+/// The times of the instruction that is `k`-th from the end.
+fn times(alloc: Global, widths: &Widths, items: &[Marked], k: usize) -> Result<[u64; 5], Fail> {
+    if !are_widths(widths) || !is_trace(items, 0) || k < 1 {
+        return Err(Fail::from("no such trace"));
+    }
+    let mut rows = Rows::new(alloc)?;
+    rows.time_all(widths, &SliceTrace { items });
+    let x = rows.back(k).ok_or("no such instruction")?;
+    Ok([x.fetch, x.dispatch, x.issue, x.completion, x.retirement])
+}
+
+#[test]
+fn times_by_each_rule(rt: HostRuntime) -> Result<(), Fail> {
+    // The widths, the trace, the skip, the times of the last instruction, and the cycles.
+    let cases: [(Widths, &[Marked], usize, [u64; 5], u64); 25] = [
+        // Fetch width.
+        (
+            Widths { fetch: 1, ..WIDTHS },
+            &[ALU, ALU, ALU],
+            0,
+            [2, 3, 4, 5, 6],
+            6,
+        ),
+        // A jump ends the cycle's fetch.
+        (
+            WIDTHS,
+            &[
+                Marked {
+                    transferred: true,
+                    ..JUMP
+                },
+                ALU,
+            ],
+            0,
+            [1, 2, 3, 4, 5],
+            5,
+        ),
+        // The penalty counts from the completion.
+        (
+            WIDTHS,
+            &[
+                Marked {
+                    mispredicted: true,
+                    ..DIV
+                },
+                ALU,
+            ],
+            0,
+            [28, 29, 30, 31, 32],
+            32,
+        ),
+        // Fetch waits for the retirement of an ECALL.
+        (WIDTHS, &[CALL, ALU], 0, [5, 6, 7, 8, 9], 9),
+        // An ECALL waits for the retirement of all before.
+        (WIDTHS, &[DIV, CALL], 0, [0, 23, 24, 25, 26], 26),
+        // Fetch queue.
+        (
+            Widths {
+                queue: 1,
+                dispatch: 1,
+                ..WIDTHS
+            },
+            &[ALU, ALU, ALU],
+            0,
+            [2, 3, 4, 5, 6],
+            6,
+        ),
+        // A stall holds the instructions behind, too.
+        (
+            WIDTHS,
+            &[ALU, Marked { stall: 7, ..ALU }, ALU],
+            0,
+            [7, 8, 9, 10, 11],
+            11,
+        ),
+        // Dispatch width.
+        (
+            Widths {
+                dispatch: 1,
+                ..WIDTHS
+            },
+            &[ALU, ALU, ALU],
+            0,
+            [0, 3, 4, 5, 6],
+            6,
+        ),
+        // Dispatch in order.
+        (
+            Widths {
+                dispatch: 2,
+                ..WIDTHS
+            },
+            &[ALU, ALU, ALU, ALU, ALU],
+            0,
+            [1, 3, 4, 5, 6],
+            6,
+        ),
+        // Register update unit.
+        (
+            Widths {
+                ruu: 4,
+                lsq: 2,
+                ..WIDTHS
+            },
+            &[DIV, ALU, ALU, ALU, ALU],
+            0,
+            [1, 23, 24, 25, 26],
+            26,
+        ),
+        // Load and store queue.
+        (
+            Widths { lsq: 2, ..WIDTHS },
+            &[
+                Marked {
+                    latency: 50,
+                    ..LOAD
+                },
+                Marked {
+                    word: Some(7),
+                    ..STORE
+                },
+                Marked {
+                    word: Some(8),
+                    ..LOAD
+                },
+            ],
+            0,
+            [0, 53, 54, 56, 57],
+            57,
+        ),
+        // Only loads and stores have places there.
+        (
+            Widths { lsq: 2, ..WIDTHS },
+            &[
+                Marked {
+                    latency: 50,
+                    ..LOAD
+                },
+                ALU,
+                Marked {
+                    word: Some(7),
+                    ..STORE
+                },
+                ALU,
+            ],
+            0,
+            [0, 1, 2, 3, 53],
+            53,
+        ),
+        // First register.
+        (
+            WIDTHS,
+            &[
+                Marked {
+                    dest: Some(5),
+                    ..DIV
+                },
+                Marked {
+                    first: Some(5),
+                    ..ALU
+                },
+            ],
+            0,
+            [0, 1, 22, 23, 24],
+            24,
+        ),
+        // Second register, last writer.
+        (
+            WIDTHS,
+            &[
+                Marked {
+                    dest: Some(5),
+                    ..DIV
+                },
+                Marked {
+                    dest: Some(5),
+                    ..MUL
+                },
+                Marked {
+                    first: Some(6),
+                    second: Some(5),
+                    ..ALU
+                },
+            ],
+            0,
+            [0, 1, 5, 6, 23],
+            23,
+        ),
+        // A store's word.
+        (
+            WIDTHS,
+            &[
+                Marked {
+                    latency: 9,
+                    ..STORE
+                },
+                LOAD,
+            ],
+            0,
+            [0, 1, 11, 13, 14],
+            14,
+        ),
+        // The last store to the word.
+        (
+            WIDTHS,
+            &[
+                Marked {
+                    latency: 9,
+                    ..STORE
+                },
+                Marked {
+                    latency: 2,
+                    ..STORE
+                },
+                LOAD,
+            ],
+            0,
+            [0, 1, 5, 7, 12],
+            12,
+        ),
+        // Another word.
+        (
+            WIDTHS,
+            &[
+                Marked {
+                    latency: 9,
+                    ..STORE
+                },
+                Marked {
+                    word: Some(101),
+                    ..LOAD
+                },
+            ],
+            0,
+            [0, 1, 2, 4, 12],
+            12,
+        ),
+        // A load's word makes no load wait.
+        (
+            WIDTHS,
+            &[Marked { latency: 9, ..LOAD }, LOAD],
+            0,
+            [0, 1, 2, 4, 12],
+            12,
+        ),
+        // Issue width.
+        (
+            Widths { issue: 1, ..WIDTHS },
+            &[ALU, ALU, ALU],
+            0,
+            [0, 1, 4, 5, 6],
+            6,
+        ),
+        // Limit of a class.
+        (WIDTHS, &[MUL, MUL, MUL], 0, [0, 1, 4, 7, 8], 8),
+        // Not that of another class.
+        (WIDTHS, &[LOAD, LOAD, MUL, LOAD], 0, [0, 1, 3, 5, 6], 6),
+        // Older instructions come first, and later ones do not count.
+        (
+            Widths { issue: 1, ..WIDTHS },
+            &[
+                Marked {
+                    dest: Some(5),
+                    ..MUL
+                },
+                Marked {
+                    first: Some(5),
+                    ..ALU
+                },
+                JUMP,
+                MUL,
+                STORE,
+            ],
+            0,
+            [1, 2, 6, 7, 8],
+            8,
+        ),
+        // Retirement in order.
+        (WIDTHS, &[DIV, ALU], 1, [0, 1, 2, 3, 23], 0),
+        // Retirement width.
+        (
+            Widths {
+                retire: 1,
+                ..WIDTHS
+            },
+            &[ALU, ALU, ALU],
+            0,
+            [0, 1, 2, 3, 6],
+            6,
+        ),
+        // All of it once.
+        (
+            NARROW,
+            &[
+                Marked {
+                    dest: Some(1),
+                    latency: 42,
+                    ..LOAD
+                },
+                Marked {
+                    first: Some(1),
+                    dest: Some(2),
+                    ..ALU
+                },
+                Marked {
+                    first: Some(2),
+                    word: Some(9),
+                    ..STORE
+                },
+                Marked {
+                    word: Some(9),
+                    dest: Some(3),
+                    ..LOAD
+                },
+                Marked {
+                    first: Some(3),
+                    mispredicted: true,
+                    transferred: true,
+                    ..JUMP
+                },
+                Marked {
+                    stall: 10,
+                    dest: Some(4),
+                    ..MUL
+                },
+                Marked {
+                    first: Some(4),
+                    second: Some(4),
+                    dest: Some(4),
+                    ..DIV
+                },
+                Marked {
+                    first: Some(4),
+                    second: Some(2),
+                    ..STORE
+                },
+                Marked {
+                    dest: Some(5),
+                    ..LOAD
+                },
+                CALL,
+                ALU,
+            ],
+            4,
+            [95, 96, 97, 98, 99],
+            50,
+        ),
+    ];
+    for (widths, items, skip, last, total) in cases {
+        assert_eq!(rt; times(rt.alloc(), &widths, items, 1)?, last);
+        assert_eq!(rt; cycles(rt.alloc(), &widths, items, skip)?, total);
+    }
+    Ok(())
+}
+
+#[test]
+fn times_each_instruction(rt: HostRuntime) -> Result<(), Fail> {
+    let items = [
+        Marked {
+            dest: Some(5),
+            ..ALU
+        },
+        Marked {
+            first: Some(5),
+            dest: Some(6),
+            latency: 3,
+            ..LOAD
+        },
+        Marked {
+            first: Some(6),
+            mispredicted: true,
+            transferred: true,
+            ..JUMP
+        },
+        Marked {
+            dest: Some(7),
+            stall: 2,
+            ..ALU
+        },
+    ];
+    let expected = [
+        [12, 13, 14, 15, 16],
+        [1, 2, 6, 7, 8],
+        [0, 1, 3, 6, 7],
+        [0, 1, 2, 3, 4],
+    ];
+    for (i, times_of_one) in expected.iter().enumerate() {
+        assert_eq!(rt;
+            times(rt.alloc(), &NARROW, items.as_slice(), i + 1)?,
+            *times_of_one
+        );
+    }
+    assert_eq!(rt; cycles(rt.alloc(), &NARROW, items.as_slice(), 0)?, 16);
+    assert_eq!(rt; cycles(rt.alloc(), &NARROW, items.as_slice(), 2)?, 9);
+    Ok(())
+}
+
+/// Thirteen instructions that do nothing and a call that ends the program, in two lines of 64 bytes
+/// that no cache holds.
+const IDLE: [Marked; 16] = [
+    Marked { stall: 130, ..ALU },
+    ALU,
+    ALU,
+    ALU,
+    ALU,
+    ALU,
+    ALU,
+    ALU,
+    ALU,
+    ALU,
+    ALU,
+    Marked { stall: 100, ..ALU },
+    ALU,
+    Marked {
+        dest: Some(10),
+        ..ALU
+    },
+    Marked {
+        dest: Some(17),
+        ..ALU
+    },
+    CALL,
+];
+
+#[test]
+fn times_a_short_program(rt: HostRuntime) -> Result<(), Fail> {
+    assert_eq!(rt; cycles(rt.alloc(), &WIDTHS, IDLE.as_slice(), 0)?, 239);
+    assert_eq!(rt; times(rt.alloc(), &WIDTHS, IDLE.as_slice(), 2)?[4], 236);
+    assert_eq!(rt; cycles(rt.alloc(), &WIDTHS, IDLE.as_slice(), 15)?, 3);
+    Ok(())
+}
+
+#[test]
+fn forgets_the_trace_before(rt: HostRuntime) -> Result<(), Fail> {
+    if !is_trace(IDLE.as_slice(), 0) {
+        return Err(Fail::from("no such trace"));
+    }
+    let mut ruu = Ruu::new(rt.alloc(), &WIDTHS)?;
+    let trace = SliceTrace {
+        items: IDLE.as_slice(),
+    };
+    assert_eq!(rt; ruu.time(&trace, 0), 239);
+    assert_eq!(rt; ruu.time(&trace, 0), 239);
+    Ok(())
+}
+
+#[test]
+fn adds_latencies(rt: HostRuntime) -> Result<(), Fail> {
+    let items = [
+        DIV,
+        MUL,
+        Marked {
+            latency: 500,
+            stall: 9,
+            ..LOAD
+        },
+        STORE,
+        JUMP,
+        CALL,
+        ALU,
+    ];
+    for (skip, total) in [(0, 29), (1, 9), (2, 6), (3, 4), (6, 1)] {
+        assert!(rt; is_trace(items.as_slice(), skip));
+        if is_trace(items.as_slice(), skip) {
+            assert_eq!(rt;
+                scalar_time(
+                    &LATENCIES,
+                    &SliceTrace {
+                        items: items.as_slice()
+                    },
+                    skip
+                ),
+                total
+            );
+        }
+    }
+    Ok(())
+}
