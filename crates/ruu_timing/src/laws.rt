@@ -4,5 +4,4 @@ ghost use Rattle.ruu_timing.specs.Laws.{IssuesAtFirst};
 /// which it is ready and has a slot, with no bound on that cycle.
 pub fn issue_law()
     ensures { IssuesAtFirst }
-{
-}
+{}
