@@ -28,7 +28,7 @@ fn changed(alloc: Global, len: usize, edits: &[(usize, u8)]) -> Result<Vec<u8>, 
 }
 
 /// A file with these bytes behind its file header, and then its program headers up to the last byte.
-fn file(
+fn file_with(
     alloc: Global,
     entry: u32,
     body: &[u8],
@@ -73,118 +73,31 @@ fn fault_of(alloc: Global, bytes: &[u8]) -> Option<Refusal<ImageFault>> {
     read_image(alloc, bytes).err()
 }
 
-#[test]
-fn names_the_first_fault(rt: HostRuntime) -> Result<(), Fail> {
-    let alloc = rt.alloc();
-    let cases: [(&str, usize, &[(usize, u8)], ImageFault); 24] = [
-        ("nothing", 0, &[], ImageFault::NotElf),
-        (
-            "one byte less than a file header",
-            51,
-            &[],
-            ImageFault::NotElf,
-        ),
-        ("the file header alone", 52, &[], ImageFault::HeaderOutside),
-        (
-            "one byte less than the table",
-            83,
-            &[],
-            ImageFault::HeaderOutside,
-        ),
-        (
-            "the table ends the file",
-            84,
-            &[],
-            ImageFault::SegmentOutside,
-        ),
-        (
-            "one byte less than the segment",
-            107,
-            &[],
-            ImageFault::SegmentOutside,
-        ),
-        ("another magic", 108, &[(3, 0x47)], ImageFault::NotElf),
-        ("64 bits", 108, &[(4, 2)], ImageFault::NotRiscv32),
-        ("big-endian", 108, &[(5, 2)], ImageFault::NotRiscv32),
-        ("x86-64", 108, &[(18, 0x3E)], ImageFault::NotRiscv32),
-        (
-            "a shared object",
-            108,
-            &[(16, 3)],
-            ImageFault::NotExecutable,
-        ),
-        (
-            "a shared object of another machine",
-            108,
-            &[(16, 3), (18, 0x3E)],
-            ImageFault::NotRiscv32,
-        ),
-        ("compressed", 108, &[(36, 1)], ImageFault::Compressed),
-        (
-            "compressed, and no table",
-            52,
-            &[(36, 5)],
-            ImageFault::Compressed,
-        ),
-        (
-            "rows of 40 bytes",
-            108,
-            &[(42, 0x28)],
-            ImageFault::HeaderOutside,
-        ),
-        (
-            "a table far away",
-            108,
-            &[(31, 0xFF)],
-            ImageFault::HeaderOutside,
-        ),
-        ("an interpreter", 108, &[(52, 3)], ImageFault::NotExecutable),
-        ("nothing loaded", 108, &[(52, 4)], ImageFault::BadEntry),
-        (
-            "no headers, wherever and whatever",
-            108,
-            &[(31, 0xFF), (42, 7), (44, 0)],
-            ImageFault::BadEntry,
-        ),
-        (
-            "high addresses",
-            108,
-            &[(63, 0x70)],
-            ImageFault::SegmentRange,
-        ),
-        (
-            "more in the file than in memory",
-            108,
-            &[(72, 0x14)],
-            ImageFault::SegmentRange,
-        ),
-        ("a wide segment", 108, &[(75, 4)], ImageFault::SpanTooLarge),
-        (
-            "an entry between instructions",
-            108,
-            &[(24, 0x56)],
-            ImageFault::BadEntry,
-        ),
-        (
-            "an entry past the segment",
-            108,
-            &[(24, 0x6C)],
-            ImageFault::BadEntry,
-        ),
-    ];
-    for (name, len, edits, fault) in cases {
-        let bytes = changed(alloc, len, edits)?;
-        assert_eq!(rt;
-            fault_of(alloc, &bytes),
-            Some(Refusal::Fault(fault)),
-            "{name}"
-        );
+/// A file to judge: a front of the file of six instructions, with bytes at some places changed, that
+/// file with its program header twice, or sixteen bytes with such an entry and program headers.
+#[derive(Drop)]
+enum File<'a> {
+    Front(usize, &'a [(usize, u8)]),
+    HeaderTwice,
+    With(u32, &'a [ProgramHeader]),
+}
+
+impl File<'_> {
+    fn bytes(&self, alloc: Global) -> Result<Vec<u8>, AllocError> {
+        match *self {
+            File::Front(len, edits) => changed(alloc, len, edits),
+            File::HeaderTwice => {
+                let mut bytes = changed(alloc, 84, &[(44, 2)])?;
+                bytes.extend_from_slice(&COUNTDOWN[52..])?;
+                Ok(bytes)
+            }
+            File::With(entry, headers) => file_with(alloc, entry, &[0x13; 16], headers),
+        }
     }
-    Ok(())
 }
 
 #[test]
-fn judges_all_headers_by_each_rule(rt: HostRuntime) -> Result<(), Fail> {
+fn names_the_first_fault(rt: HostRuntime) -> Result<(), Fail> {
     let alloc = rt.alloc();
     let code = segment(52, 0x10054, 16, 16);
     let unfit = segment(52, 0x10054, 16, 12);
@@ -197,106 +110,211 @@ fn judges_all_headers_by_each_rule(rt: HostRuntime) -> Result<(), Fail> {
         file_size: 0,
         memory_size: 0,
     };
-    let cases: [(&str, u32, &[ProgramHeader], ImageFault); 16] = [
+    let cases: [(&str, File<'_>, ImageFault); 41] = [
+        ("nothing", File::Front(0, &[]), ImageFault::NotElf),
+        (
+            "one byte less than a file header",
+            File::Front(51, &[]),
+            ImageFault::NotElf,
+        ),
+        (
+            "the file header alone",
+            File::Front(52, &[]),
+            ImageFault::HeaderOutside,
+        ),
+        (
+            "one byte less than the table",
+            File::Front(83, &[]),
+            ImageFault::HeaderOutside,
+        ),
+        (
+            "the table ends the file",
+            File::Front(84, &[]),
+            ImageFault::SegmentOutside,
+        ),
+        (
+            "one byte less than the segment",
+            File::Front(107, &[]),
+            ImageFault::SegmentOutside,
+        ),
+        (
+            "another magic",
+            File::Front(108, &[(3, 0x47)]),
+            ImageFault::NotElf,
+        ),
+        (
+            "64 bits",
+            File::Front(108, &[(4, 2)]),
+            ImageFault::NotRiscv32,
+        ),
+        (
+            "big-endian",
+            File::Front(108, &[(5, 2)]),
+            ImageFault::NotRiscv32,
+        ),
+        (
+            "x86-64",
+            File::Front(108, &[(18, 0x3E)]),
+            ImageFault::NotRiscv32,
+        ),
+        (
+            "a shared object",
+            File::Front(108, &[(16, 3)]),
+            ImageFault::NotExecutable,
+        ),
+        (
+            "a shared object of another machine",
+            File::Front(108, &[(16, 3), (18, 0x3E)]),
+            ImageFault::NotRiscv32,
+        ),
+        (
+            "compressed",
+            File::Front(108, &[(36, 1)]),
+            ImageFault::Compressed,
+        ),
+        (
+            "compressed, and no table",
+            File::Front(52, &[(36, 5)]),
+            ImageFault::Compressed,
+        ),
+        (
+            "rows of 40 bytes",
+            File::Front(108, &[(42, 0x28)]),
+            ImageFault::HeaderOutside,
+        ),
+        (
+            "a table far away",
+            File::Front(108, &[(31, 0xFF)]),
+            ImageFault::HeaderOutside,
+        ),
+        (
+            "an interpreter",
+            File::Front(108, &[(52, 3)]),
+            ImageFault::NotExecutable,
+        ),
+        (
+            "nothing loaded",
+            File::Front(108, &[(52, 4)]),
+            ImageFault::BadEntry,
+        ),
+        (
+            "no headers, wherever and whatever",
+            File::Front(108, &[(31, 0xFF), (42, 7), (44, 0)]),
+            ImageFault::BadEntry,
+        ),
+        (
+            "high addresses",
+            File::Front(108, &[(63, 0x70)]),
+            ImageFault::SegmentRange,
+        ),
+        (
+            "more in the file than in memory",
+            File::Front(108, &[(72, 0x14)]),
+            ImageFault::SegmentRange,
+        ),
+        (
+            "a wide segment",
+            File::Front(108, &[(75, 4)]),
+            ImageFault::SpanTooLarge,
+        ),
+        (
+            "an entry between instructions",
+            File::Front(108, &[(24, 0x56)]),
+            ImageFault::BadEntry,
+        ),
+        (
+            "an entry past the segment",
+            File::Front(108, &[(24, 0x6C)]),
+            ImageFault::BadEntry,
+        ),
+        (
+            "its program header twice",
+            File::HeaderTwice,
+            ImageFault::Overlap,
+        ),
         (
             "an interpreter behind a bad segment",
-            0x10054,
-            &[unfit, interpreter],
+            File::With(0x10054, &[unfit, interpreter]),
             ImageFault::NotExecutable,
         ),
         (
             "a bad range before bytes that aren't there",
-            0x10054,
-            &[unfit, outside],
+            File::With(0x10054, &[unfit, outside]),
             ImageFault::SegmentOutside,
         ),
         (
             "an offset that wraps",
-            0x10054,
-            &[code, outside],
+            File::With(0x10054, &[code, outside]),
             ImageFault::SegmentOutside,
         ),
         (
             "addresses that wrap",
-            0x10054,
-            &[code, high],
+            File::With(0x10054, &[code, high]),
             ImageFault::SegmentRange,
         ),
         (
             "a bad range behind an overlap",
-            0x10054,
-            &[code, code, high],
+            File::With(0x10054, &[code, code, high]),
             ImageFault::SegmentRange,
         ),
         (
             "one byte past the top",
-            0x10054,
-            &[code, segment(0, 0x6FFF_FFFF, 0, 2)],
+            File::With(0x10054, &[code, segment(0, 0x6FFF_FFFF, 0, 2)]),
             ImageFault::SegmentRange,
         ),
         (
             "equal segments",
-            0x10054,
-            &[code, code],
+            File::With(0x10054, &[code, code]),
             ImageFault::Overlap,
         ),
         (
             "the last byte",
-            0x10054,
-            &[code, segment(52, 0x10063, 1, 1)],
+            File::With(0x10054, &[code, segment(52, 0x10063, 1, 1)]),
             ImageFault::Overlap,
         ),
         (
             "the first byte",
-            0x10054,
-            &[code, segment(52, 0x10053, 1, 2)],
+            File::With(0x10054, &[code, segment(52, 0x10053, 1, 2)]),
             ImageFault::Overlap,
         ),
         (
             "one inside another",
-            0x10054,
-            &[segment(0, 0x10000, 0, 0x1000), code],
+            File::With(0x10054, &[segment(0, 0x10000, 0, 0x1000), code]),
             ImageFault::Overlap,
         ),
         (
             "the first and the third",
-            0x10054,
-            &[code, segment(52, 0x20000, 4, 4), code],
+            File::With(0x10054, &[code, segment(52, 0x20000, 4, 4), code]),
             ImageFault::Overlap,
         ),
         (
             "an overlap and a wide span",
-            0x10054,
-            &[code, code, segment(0, 0x6000_0000, 0, 1)],
+            File::With(0x10054, &[code, code, segment(0, 0x6000_0000, 0, 1)]),
             ImageFault::Overlap,
         ),
         (
             "a page too many",
-            0x10054,
-            &[code, segment(0, 0x401_0000, 0, 1)],
+            File::With(0x10054, &[code, segment(0, 0x401_0000, 0, 1)]),
             ImageFault::SpanTooLarge,
         ),
         (
             "an entry in no segment, of one page",
-            0x10050,
-            &[code],
+            File::With(0x10050, &[code]),
             ImageFault::BadEntry,
         ),
         (
             "an entry past the last",
-            0x10064,
-            &[code],
+            File::With(0x10064, &[code]),
             ImageFault::BadEntry,
         ),
         (
             "no segment with memory",
-            0x10054,
-            &[segment(52, 0x10054, 0, 0)],
+            File::With(0x10054, &[segment(52, 0x10054, 0, 0)]),
             ImageFault::BadEntry,
         ),
     ];
-    for (name, entry, headers, fault) in cases {
-        let bytes = file(alloc, entry, &[0x13; 16], headers)?;
+    for (name, file, fault) in cases {
+        let bytes = file.bytes(alloc)?;
         assert_eq!(rt;
             fault_of(alloc, &bytes),
             Some(Refusal::Fault(fault)),
@@ -359,7 +377,7 @@ fn loads_segments(rt: HostRuntime) -> Result<(), Fail> {
         segment(0xFFFF_FFFF, 0x2_3000, 0, 0x1004),
         segment(0xFFFF_FFFF, 0xFFFF_FFFF, 0xFFFF_FFFF, 0),
     ];
-    let bytes = file(alloc, 0x2_1004, &[1, 2, 3, 4, 5, 6, 7, 8], &headers)?;
+    let bytes = file_with(alloc, 0x2_1004, &[1, 2, 3, 4, 5, 6, 7, 8], &headers)?;
     let image = read_image(alloc, &bytes)?;
     assert_eq!(rt;
         (image.entry(), image.low(), image.heap_low()),
@@ -382,10 +400,13 @@ fn loads_segments(rt: HostRuntime) -> Result<(), Fail> {
 fn takes_all_that_the_limits_allow(rt: HostRuntime) -> Result<(), Fail> {
     let alloc = rt.alloc();
     let widest = [segment(52, 0x10054, 16, 0x3FF_FFAC)];
-    let image = read_image(alloc, &file(alloc, 0x10054, &[0x13; 16], &widest)?)?;
+    let image = read_image(alloc, &file_with(alloc, 0x10054, &[0x13; 16], &widest)?)?;
     assert_eq!(rt; image.heap_low(), 0x401_0000);
     let highest = [segment(52, 0x6FFF_FFF0, 16, 16)];
-    let image = read_image(alloc, &file(alloc, 0x6FFF_FFF0, &[0x13; 16], &highest)?)?;
+    let image = read_image(
+        alloc,
+        &file_with(alloc, 0x6FFF_FFF0, &[0x13; 16], &highest)?,
+    )?;
     assert_eq!(rt; (image.low(), image.heap_low()), (0x6FFF_F000, 0x7000_0000));
 
     let mut bytes = vec![in alloc; 0u8; 67_108_864]?;
@@ -404,11 +425,11 @@ fn takes_all_that_the_limits_allow(rt: HostRuntime) -> Result<(), Fail> {
     for i in 0..65_535u32 {
         headers.push(segment(0, 0x10000 + 8 * (i * 7919 % 65_535), 0, 8))?;
     }
-    let image = read_image(alloc, &file(alloc, 0x10000, &[], &headers)?)?;
+    let image = read_image(alloc, &file_with(alloc, 0x10000, &[], &headers)?)?;
     assert_eq!(rt; (image.low(), image.heap_low()), (0x10000, 0x9_0000));
     headers.pop();
     headers.push(segment(0, 0x50001, 0, 1))?;
-    let bytes = file(alloc, 0x10000, &[], &headers)?;
+    let bytes = file_with(alloc, 0x10000, &[], &headers)?;
     assert_eq!(rt;
         fault_of(alloc, &bytes),
         Some(Refusal::Fault(ImageFault::Overlap))

@@ -79,7 +79,7 @@ fn sample(
     ensures { Answers written_view result (sample_of design.now latencies.now test.now input.now) }
 {
     let image = image_in(alloc, input)?;
-    let mut whole = machine_of(alloc, &image, false)?;
+    let mut whole = machine_of(alloc, image, false)?;
     let measured = measure(alloc, &mut whole, design, latencies)?;
     let exit = exit_of(&measured.outcome, design.budget)?;
     let count = count_in(design, exit.length)?;
@@ -125,12 +125,13 @@ fn report_on(
     Ok(text.into_bytes())
 }
 
-// The machine before the first instruction of an image.
-fn machine_of(alloc: Global, image: &Image, keep_output: bool) -> Result<Whole, NoMemory>
-    ensures started { IfOk result (λ whole. whole ≡ started image.now keep_output) }
+// The machine before the first instruction of an image, which is let go: the machine has its own
+// words.
+fn machine_of(alloc: Global, image: Image, keep_output: bool) -> Result<Whole, NoMemory>
+    ensures started { IfOk result (λ whole. whole ≡ started image keep_output) }
     ensures running { IfOk result (λ whole. whole.state.exit ≡ None) }
 {
-    Whole::new(alloc, image, keep_output)
+    Whole::new(alloc, &image, keep_output)
 }
 
 // The output of the program in the input.
@@ -139,7 +140,7 @@ fn run(alloc: Global, budget: u64, input: &[u8]) -> Result<Written, Refusal<Inpu
     ensures { Answers written_view result (run_of budget input.now) }
 {
     let image = image_in(alloc, input)?;
-    let mut whole = machine_of(alloc, &image, true)?;
+    let mut whole = machine_of(alloc, image, true)?;
     let outcome = whole.run(budget)?;
     let exit = exit_of(&outcome, budget)?;
     Ok(Written {
