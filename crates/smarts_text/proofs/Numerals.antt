@@ -8,7 +8,7 @@ use Rattle.std.specs.List.{list_all}
 use Rattle.std.specs.Result.{result_ok}
 use Rattle.std.specs.Str.Parse.{digits_value, ParsesUnsigned}
 use Rattle.smarts_text.specs.Rows.{parts_copied}
-use Rattle.smarts_text.specs.Values.{is_number, number_of, parts_round}
+use Rattle.smarts_text.specs.Numerals.{is_number, number_of, parts_round}
 
 digits_read : IsNumeralModel (λ ds. list_all is_ascii_digit ds ≡ true) (digits_value 10)
 digits_read = numerals_by_value _ (search rules)

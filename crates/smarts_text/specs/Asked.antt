@@ -8,16 +8,17 @@ use Rattle.smarts_text.specs.declared.keys.Form.{Form}
 use Rattle.smarts_text.specs.declared.keys.Form.TheVariants.{Number, Machine}
 use Rattle.smarts_text.specs.Keys as Keys
 use Rattle.smarts_text.specs.Keys.{Key}
-use Rattle.smarts_text.specs.Values.{number_read, machine_of}
+use Rattle.smarts_text.specs.Numerals.{number_read}
+use Rattle.smarts_text.specs.Values.{machine_of}
 use Rattle.smarts_text.specs.Words.{given}
 
 abbrev pub number_by : Form → List ℕ → Option ℕ
 number_by (Number low high usual) text = result_ok (number_read low high text)
-number_by (Machine usual) text = None
+number_by form text = None
 
 abbrev pub usual_number : Form → ℕ
 usual_number (Number low high usual) = usual
-usual_number (Machine usual) = 0
+usual_number form = 0
 
 -- the number of a key
 unfoldable pub number_in : List (List ℕ) → Key → ℕ
@@ -26,7 +27,7 @@ number_in words key =
 
 abbrev pub is_usual_ruu : Form → Bool
 is_usual_ruu (Machine usual) = usual
-is_usual_ruu (Number low high usual) = true
+is_usual_ruu form = true
 
 -- whether the machine is the one with a register update unit
 unfoldable pub is_ruu_in : List (List ℕ) → Bool

@@ -3,7 +3,8 @@ use Rattle.std.specs.Prelude.{◌^◌, ◌==◌, ℕ, List, [], ◌∷◌, Bool,
 use Rattle.std.specs.List.{find, list_any}
 use Rattle.std.specs.Str.{bytes_eq}
 use Rattle.smarts_text.specs.declared.keys.Form.{Form}
-use Rattle.smarts_text.specs.declared.keys.Form.TheVariants.{Number, Machine}
+use Rattle.smarts_text.specs.declared.keys.Form.TheVariants.{Number, Machine, Cache, Tlb, Kind}
+use Rattle.predictor.specs.declared.kind.Scheme.TheVariants.{Gshare}
 
 -- a name, the letters of the commands that have the key, and its values
 pub record Key : Type 0 where
@@ -46,6 +47,68 @@ error_key = key (codes "error") (codes "s") (Number 1 5000 300)
 abbrev pub machine_key : Key
 machine_key = key (codes "machine") (codes "s") (Machine true)
 
+-- lines of 64 bytes in 64 sets of 4 ways; the sizes are told by their logarithms to base 2
+abbrev pub l1i_key : Key
+l1i_key = key (codes "l1i") (codes "s") (Cache 6 6 4)
+
+abbrev pub l1d_key : Key
+l1d_key = key (codes "l1d") (codes "s") (Cache 6 6 4)
+
+abbrev pub l2_key : Key
+l2_key = key (codes "l2") (codes "s") (Cache 6 9 8)
+
+-- 8 sets of 4 ways
+abbrev pub itlb_key : Key
+itlb_key = key (codes "itlb") (codes "s") (Tlb 3 4)
+
+abbrev pub dtlb_key : Key
+dtlb_key = key (codes "dtlb") (codes "s") (Tlb 4 4)
+
+abbrev pub predictor_key : Key
+predictor_key = key (codes "predictor") (codes "s") (Kind (record { scheme = Gshare; bits = 12; target_log = 9; depth = 8 }))
+
+abbrev pub fetch_key : Key
+fetch_key = key (codes "fetch") (codes "s") (Number 1 8 4)
+
+abbrev pub dispatch_key : Key
+dispatch_key = key (codes "dispatch") (codes "s") (Number 1 8 4)
+
+abbrev pub issue_key : Key
+issue_key = key (codes "issue") (codes "s") (Number 1 8 4)
+
+abbrev pub retire_key : Key
+retire_key = key (codes "retire") (codes "s") (Number 1 8 4)
+
+abbrev pub queue_key : Key
+queue_key = key (codes "queue") (codes "s") (Number 1 32 8)
+
+abbrev pub ruu_key : Key
+ruu_key = key (codes "ruu") (codes "s") (Number 4 256 32)
+
+abbrev pub lsq_key : Key
+lsq_key = key (codes "lsq") (codes "s") (Number 2 128 16)
+
+abbrev pub penalty_key : Key
+penalty_key = key (codes "penalty") (codes "s") (Number 1 64 6)
+
+abbrev pub alus_key : Key
+alus_key = key (codes "alus") (codes "s") (Number 1 8 4)
+
+abbrev pub muls_key : Key
+muls_key = key (codes "muls") (codes "s") (Number 1 8 1)
+
+abbrev pub divs_key : Key
+divs_key = key (codes "divs") (codes "s") (Number 1 8 1)
+
+abbrev pub loads_key : Key
+loads_key = key (codes "loads") (codes "s") (Number 1 8 2)
+
+abbrev pub stores_key : Key
+stores_key = key (codes "stores") (codes "s") (Number 1 8 1)
+
+abbrev pub branches_key : Key
+branches_key = key (codes "branches") (codes "s") (Number 1 8 1)
+
 abbrev pub mullat_key : Key
 mullat_key = key (codes "mullat") (codes "s") (Number 1 16 3)
 
@@ -55,10 +118,18 @@ divlat_key = key (codes "divlat") (codes "s") (Number 1 64 20)
 abbrev pub l1lat_key : Key
 l1lat_key = key (codes "l1lat") (codes "s") (Number 1 16 2)
 
+abbrev pub l2lat_key : Key
+l2lat_key = key (codes "l2lat") (codes "s") (Number 1 100 10)
+
+abbrev pub memlat_key : Key
+memlat_key = key (codes "memlat") (codes "s") (Number 1 1000 100)
+
+abbrev pub tlblat_key : Key
+tlblat_key = key (codes "tlblat") (codes "s") (Number 0 200 30)
+
 unfoldable pub keys : List Key
 keys =
-    unit_key ∷ warm_key ∷ every_key ∷ offset_key ∷ seed_key ∷ budget_key ∷ min_key ∷ z_key ∷ error_key
-    ∷ machine_key ∷ mullat_key ∷ divlat_key ∷ l1lat_key ∷ []
+    unit_key ∷ warm_key ∷ every_key ∷ offset_key ∷ seed_key ∷ budget_key ∷ min_key ∷ z_key ∷ error_key ∷ machine_key ∷ l1i_key ∷ l1d_key ∷ l2_key ∷ itlb_key ∷ dtlb_key ∷ predictor_key ∷ fetch_key ∷ dispatch_key ∷ issue_key ∷ retire_key ∷ queue_key ∷ ruu_key ∷ lsq_key ∷ penalty_key ∷ alus_key ∷ muls_key ∷ divs_key ∷ loads_key ∷ stores_key ∷ branches_key ∷ mullat_key ∷ divlat_key ∷ l1lat_key ∷ l2lat_key ∷ memlat_key ∷ tlblat_key ∷ []
 
 -- the key has this name, and the command with this letter has the key
 abbrev pub is_key : ℕ → List ℕ → Key → Bool

@@ -1,10 +1,13 @@
 pub mod Asked
 pub mod Checks
+pub mod Configured
 pub mod Keys
 pub mod Meaning
 pub mod Numbers
+pub mod Numerals
 pub mod Report
 pub mod Rows
+pub mod Shapes
 pub mod Texts
 pub mod Values
 pub mod Words

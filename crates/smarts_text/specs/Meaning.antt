@@ -1,5 +1,5 @@
 -- What the words of a command line mean: a command, or the first fault.
-use Rattle.std.specs.Prelude.{◌+◌, ℕ, List, [], ◌∷◌, Bool, true, false, ◌&&◌, nat_le, length, codes, if◌then◌else◌, Option, Some, None, Result, Ok, Err}
+use Rattle.std.specs.Prelude.{◌+◌, ℕ, List, [], ◌∷◌, nat_le, nat_lt, length, codes, if◌then◌else◌, Option, Some, None, Result, Ok, Err}
 use Rattle.std.specs.Str.{bytes_eq}
 use Rattle.smarts_text.specs.declared.command.Command.{Command}
 use Rattle.smarts_text.specs.declared.command.Command.TheVariants as commands
@@ -7,8 +7,9 @@ use Rattle.smarts_text.specs.declared.read.Job.{Job}
 use Rattle.smarts_text.specs.declared.read.Job.TheVariants.{Sample, Run}
 use Rattle.smarts_text.specs.declared.read.WordFault.{WordFault}
 use Rattle.smarts_text.specs.declared.read.WordKind.{WordKind}
-use Rattle.smarts_text.specs.declared.read.WordKind.TheVariants.{NoCommand, UnknownCommand, OffsetNotBelowEvery, NotBuilt}
-use Rattle.smarts_text.specs.Asked.{number_in, is_ruu_in, design_in, test_in}
+use Rattle.smarts_text.specs.declared.read.WordKind.TheVariants.{NoCommand, UnknownCommand, LsqOverRuu, OffsetNotBelowEvery}
+use Rattle.smarts_text.specs.Asked.{number_in, design_in, test_in}
+use Rattle.smarts_text.specs.Configured.{config_in}
 use Rattle.smarts_text.specs.Keys as Keys
 use Rattle.smarts_text.specs.Words.{first_fault}
 
@@ -22,25 +23,17 @@ abbrev pub letter_of : Job → ℕ
 letter_of Sample = 115
 letter_of Run = 114
 
--- whether this is built only for the machine without a register update unit
-abbrev pub is_for_scalar : Job → Bool
-is_for_scalar Sample = true
-is_for_scalar Run = false
-
 -- What is wrong with words that have no fault each by itself. It is asked of every command: where one
--- hasn't the keys `offset` and `every`, their defaults pass.
-unfoldable pub late_fault : Job → List (List ℕ) → Option WordKind
-late_fault job words =
-    if nat_le (number_in words Keys.every_key) (number_in words Keys.offset_key)
-    then Some OffsetNotBelowEvery
-    else (if is_for_scalar job && is_ruu_in words then Some NotBuilt else None)
+-- hasn't the keys, their defaults pass.
+unfoldable pub late_fault : List (List ℕ) → Option WordKind
+late_fault words =
+    if nat_lt (number_in words Keys.ruu_key) (number_in words Keys.lsq_key) then Some LsqOverRuu
+    else (if nat_le (number_in words Keys.every_key) (number_in words Keys.offset_key) then Some OffsetNotBelowEvery
+    else None)
 
 -- what words ask for that have no fault
 unfoldable pub command_in : Job → List (List ℕ) → Command
-command_in Sample words =
-    commands.Sample
-    (design_in words) (is_ruu_in words) (number_in words Keys.mullat_key)
-    (number_in words Keys.divlat_key) (number_in words Keys.l1lat_key) (test_in words)
+command_in Sample words = commands.Sample (design_in words) (config_in words) (test_in words)
 command_in Run words = commands.Run (number_in words Keys.budget_key)
 
 abbrev pub refused : ℕ → WordKind → Result Command WordFault
@@ -53,7 +46,7 @@ unless_late job words None = Ok (command_in job words)
 abbrev pub unless_faulty :
     Job → List (List ℕ) → Option (ℕ × WordKind) → Result Command WordFault
 unless_faulty job words (Some fault) = refused (fault.0 + 1) fault.1
-unless_faulty job words None = unless_late job words (late_fault job words)
+unless_faulty job words None = unless_late job words (late_fault words)
 
 abbrev pub asked_of : Option Job → List (List ℕ) → Result Command WordFault
 asked_of None words = refused 0 UnknownCommand

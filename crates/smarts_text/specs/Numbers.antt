@@ -30,8 +30,8 @@ word_number kinds.UnknownKey = 3
 word_number kinds.Repeated = 4
 word_number kinds.BadValue = 5
 word_number kinds.OutOfRange = 6
+word_number kinds.LsqOverRuu = 8
 word_number kinds.OffsetNotBelowEvery = 9
-word_number kinds.NotBuilt = 10
 
 abbrev pub image_number : ImageFault → ℕ
 image_number images.NotElf = 1

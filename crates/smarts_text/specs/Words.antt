@@ -8,7 +8,8 @@ use Rattle.smarts_text.specs.declared.keys.Form.{Form}
 use Rattle.smarts_text.specs.declared.read.WordKind.{WordKind}
 use Rattle.smarts_text.specs.declared.read.WordKind.TheVariants.{UnknownKey, Repeated}
 use Rattle.smarts_text.specs.Keys.{form_in}
-use Rattle.smarts_text.specs.Values.{parts_round, misread}
+use Rattle.smarts_text.specs.Numerals.{parts_round}
+use Rattle.smarts_text.specs.Values.{misread}
 
 -- the key and the value of a word: what stands left and right of its first `=`
 abbrev pub parts_of : List ℕ → Option (List ℕ × List ℕ)

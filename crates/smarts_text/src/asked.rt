@@ -6,7 +6,8 @@ ghost use Rattle.smarts_text.specs.Checks.{IsUsual, IsWithin};
 ghost use Rattle.smarts_text.specs.Rows.{key_of};
 
 use crate::keys::{self, Form, Row};
-use crate::values::{is_ruu, read_number};
+use crate::number::read_number;
+use crate::values::is_ruu;
 use crate::words::given;
 use confidence::Test;
 use sample_design::Design;
@@ -34,7 +35,7 @@ pub fn wants_ruu(words: &[String]) -> bool
 {
     let usual = match keys::MACHINE.2 {
         Form::Machine(usual) => usual,
-        Form::Number(..) => true,
+        _ => true,
     };
     let Some(text) = given(keys::MACHINE.0, words) else {
         return usual;

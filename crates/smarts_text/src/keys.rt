@@ -3,6 +3,8 @@ ghost use Rattle.std.specs.List.{find};
 ghost use Rattle.smarts_text.specs.Keys.{is_key, keys, form_in};
 ghost use Rattle.smarts_text.specs.Rows.{key_of};
 
+use predictor::{PredictorKind, Scheme};
+
 /// What the values of a key are.
 #[derive(Clone, Copy, Debug, PartialEq, Eq)]
 pub enum Form {
@@ -10,6 +12,13 @@ pub enum Form {
     Number(u64, u64, u64),
     /// `ruu` or `scalar`: whether the default is `ruu`.
     Machine(bool),
+    /// A cache, `line:sets:ways`: of the default, the logarithms to base 2 of line and sets, and the
+    /// ways.
+    Cache(u8, u8, u8),
+    /// A TLB, `sets:ways`: of the default, the logarithm to base 2 of the sets, and the ways.
+    Tlb(u8, u8),
+    /// A predictor, `scheme:bits:target_log:depth`: the default.
+    Kind(PredictorKind),
 }
 
 /// A key: its name, the letters of the commands that have it, and what its values are.
@@ -36,18 +45,75 @@ pub const ERROR: Row = Row("error", b"s", Form::Number(1, 5000, 300));
 
 pub const MACHINE: Row = Row("machine", b"s", Form::Machine(true));
 
+pub const L1I: Row = Row("l1i", b"s", Form::Cache(6, 6, 4));
+
+pub const L1D: Row = Row("l1d", b"s", Form::Cache(6, 6, 4));
+
+pub const L2: Row = Row("l2", b"s", Form::Cache(6, 9, 8));
+
+pub const ITLB: Row = Row("itlb", b"s", Form::Tlb(3, 4));
+
+pub const DTLB: Row = Row("dtlb", b"s", Form::Tlb(4, 4));
+
+pub const PREDICTOR: Row = Row(
+    "predictor",
+    b"s",
+    Form::Kind(PredictorKind {
+        scheme: Scheme::Gshare,
+        bits: 12,
+        target_log: 9,
+        depth: 8,
+    }),
+);
+
+pub const FETCH: Row = Row("fetch", b"s", Form::Number(1, 8, 4));
+
+pub const DISPATCH: Row = Row("dispatch", b"s", Form::Number(1, 8, 4));
+
+pub const ISSUE: Row = Row("issue", b"s", Form::Number(1, 8, 4));
+
+pub const RETIRE: Row = Row("retire", b"s", Form::Number(1, 8, 4));
+
+pub const QUEUE: Row = Row("queue", b"s", Form::Number(1, 32, 8));
+
+pub const RUU: Row = Row("ruu", b"s", Form::Number(4, 256, 32));
+
+pub const LSQ: Row = Row("lsq", b"s", Form::Number(2, 128, 16));
+
+pub const PENALTY: Row = Row("penalty", b"s", Form::Number(1, 64, 6));
+
+pub const ALUS: Row = Row("alus", b"s", Form::Number(1, 8, 4));
+
+pub const MULS: Row = Row("muls", b"s", Form::Number(1, 8, 1));
+
+pub const DIVS: Row = Row("divs", b"s", Form::Number(1, 8, 1));
+
+pub const LOADS: Row = Row("loads", b"s", Form::Number(1, 8, 2));
+
+pub const STORES: Row = Row("stores", b"s", Form::Number(1, 8, 1));
+
+pub const BRANCHES: Row = Row("branches", b"s", Form::Number(1, 8, 1));
+
 pub const MULLAT: Row = Row("mullat", b"s", Form::Number(1, 16, 3));
 
 pub const DIVLAT: Row = Row("divlat", b"s", Form::Number(1, 64, 20));
 
 pub const L1LAT: Row = Row("l1lat", b"s", Form::Number(1, 16, 2));
 
+pub const L2LAT: Row = Row("l2lat", b"s", Form::Number(1, 100, 10));
+
+pub const MEMLAT: Row = Row("memlat", b"s", Form::Number(1, 1000, 100));
+
+pub const TLBLAT: Row = Row("tlblat", b"s", Form::Number(0, 200, 30));
+
 #[tactic(auto, unfolding(crate::specs::Keys::keys))]
 fn rows() -> &'static [Row]
     ensures { map key_of result.now ≡ keys }
 {
     &[
-        UNIT, WARM, EVERY, OFFSET, SEED, BUDGET, MIN, Z, ERROR, MACHINE, MULLAT, DIVLAT, L1LAT,
+        UNIT, WARM, EVERY, OFFSET, SEED, BUDGET, MIN, Z, ERROR, MACHINE, L1I, L1D, L2, ITLB, DTLB,
+        PREDICTOR, FETCH, DISPATCH, ISSUE, RETIRE, QUEUE, RUU, LSQ, PENALTY, ALUS, MULS, DIVS,
+        LOADS, STORES, BRANCHES, MULLAT, DIVLAT, L1LAT, L2LAT, MEMLAT, TLBLAT,
     ]
 }
 

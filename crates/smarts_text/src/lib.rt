@@ -4,10 +4,13 @@
 
 mod asked;
 mod command;
+mod configured;
 mod keys;
 mod line;
+mod number;
 mod read;
 mod report;
+mod shapes;
 mod status;
 mod texts;
 mod values;

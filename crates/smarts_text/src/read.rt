@@ -1,12 +1,13 @@
-ghost use Rattle.std.specs.Prelude.{◌≡◌, ◌<◌, ◌≤◌, ◌^◌, false, None, Some, Err, Option, map, length, string_bytes, IfOk};
+ghost use Rattle.std.specs.Prelude.{◌≡◌, ◌<◌, ◌≤◌, ◌^◌, None, Some, Err, Option, map, length, string_bytes, IfOk};
 ghost use Rattle.smarts_base.specs.Outcome.{Answers};
-ghost use Rattle.smarts_text.specs.Asked.{is_ruu_in, number_in};
+ghost use Rattle.smarts_text.specs.Asked.{number_in};
 ghost use Rattle.smarts_text.specs.Checks.{IsSound};
 ghost use Rattle.smarts_text.specs.Keys as key_specs;
 ghost use Rattle.smarts_text.specs.Meaning.{command_in, job_of, late_fault, letter_of, meaning, refused};
 
-use crate::asked::{design, number, test, wants_ruu};
+use crate::asked::{design, number, test};
 use crate::command::Command;
+use crate::configured::config;
 use crate::keys;
 use crate::words::fault_among;
 use smarts_base::Refusal;
@@ -34,10 +35,10 @@ pub enum WordKind {
     BadValue = 5,
     /// The value is in the key's form and outside its range.
     OutOfRange = 6,
+    /// The load and store queue has more places than the register update unit.
+    LsqOverRuu = 8,
     /// The offset isn't below `every`.
     OffsetNotBelowEvery = 9,
-    /// The machine isn't there yet.
-    NotBuilt = 10,
 }
 
 // The commands.
@@ -67,34 +68,31 @@ fn letter(job: Job) -> u8
 }
 
 #[tactic(auto, unfolding(crate::specs::Meaning::late_fault))]
-fn late_fault(job: Job, words: &[String]) -> Option<WordKind>
-    ensures value { result ≡ late_fault job (map string_bytes words.now) }
+fn late_fault(words: &[String]) -> Option<WordKind>
+    ensures value { result ≡ late_fault (map string_bytes words.now) }
+    ensures lsq { result ≡ None → number_in (map string_bytes words.now) key_specs.lsq_key ≤ number_in (map string_bytes words.now) key_specs.ruu_key }
     ensures offset { result ≡ None → number_in (map string_bytes words.now) key_specs.offset_key < number_in (map string_bytes words.now) key_specs.every_key }
-    ensures machine { result ≡ None → job ≡ Job.Sample → is_ruu_in (map string_bytes words.now) ≡ false }
 {
+    if number(words, &keys::RUU) < number(words, &keys::LSQ) {
+        return Some(WordKind::LsqOverRuu);
+    }
     if number(words, &keys::EVERY) <= number(words, &keys::OFFSET) {
         return Some(WordKind::OffsetNotBelowEvery);
-    }
-    if job == Job::Sample && wants_ruu(words) {
-        return Some(WordKind::NotBuilt);
     }
     None
 }
 
 #[tactic(auto, unfolding(crate::specs::Meaning::command_in, crate::specs::Asked::design_in))]
 fn command(job: Job, words: &[String]) -> Command
+    requires lsq { number_in (map string_bytes words.now) key_specs.lsq_key ≤ number_in (map string_bytes words.now) key_specs.ruu_key }
     requires offset { number_in (map string_bytes words.now) key_specs.offset_key < number_in (map string_bytes words.now) key_specs.every_key }
-    requires machine { job ≡ Job.Sample → is_ruu_in (map string_bytes words.now) ≡ false }
     ensures value { result ≡ command_in job (map string_bytes words.now) }
     ensures sound { IsSound result }
 {
     match job {
         Job::Sample => Command::Sample {
             design: design(words),
-            ruu: wants_ruu(words),
-            mul: number(words, &keys::MULLAT) as u32,
-            div: number(words, &keys::DIVLAT) as u32,
-            l1: number(words, &keys::L1LAT) as u32,
+            config: config(words),
             test: test(words),
         },
         Job::Run => Command::Run {
@@ -130,7 +128,7 @@ pub fn read_words(words: &[String]) -> Result<Command, Refusal<WordFault>>
     if let Some((place, kind)) = fault_among(letter(job), words) {
         return refuse(kind, place + 1);
     }
-    if let Some(kind) = late_fault(job, words) {
+    if let Some(kind) = late_fault(words) {
         return refuse(kind, words.len() + 1);
     }
     Ok(command(job, words))

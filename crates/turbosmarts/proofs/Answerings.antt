@@ -1,7 +1,9 @@
 -- How the stages of an answer fit together.
 use Rattle.std.proofs.Common.{◌≡◌, ◌<◌, ◌≤◌, ℕ, List, [], Bool, true, None, Result, Ok, Err, IfOk, length, slice_index, zero, suc, refl, sym, ap, ◌∙◌, arith, inl, inr, eq-eqb}
 use Rattle.std.proofs.lemmas.Bool.{cases_lt, cases_eq, ne_eqb, lt-ltb, le-ltb}
+use Rattle.confidence.specs.declared.answer.Answer.TheVariants.{Cycles}
 use Rattle.confidence.specs.declared.verdict.Test.{Test}
+use Rattle.hierarchy.specs.declared.config.Config.{Config}
 use Rattle.elf_image.specs.Image.{ImageValue, image_of}
 use Rattle.ordered_fold.specs.declared.front.Front.{Front}
 use Rattle.ordered_fold.specs.Front.{front_of}
@@ -15,10 +17,9 @@ use Rattle.sample_design.specs.Order.{order_of}
 use Rattle.sample_design.specs.declared.units.UnitsFault.TheVariants.{NoUnits, TooMany}
 use Rattle.sample_design.specs.Units.{judged, sampled_unit, unit_count, units_of}
 use Rattle.smarts_text.specs.Report.{report_of}
-use Rattle.turbosmarts.specs.declared.latency.Latencies.{Latencies}
 use Rattle.smarts_text.specs.Texts.{exit_line}
 use Rattle.turbosmarts.specs.Answer.{Exit, image_or_fault, exit_or_fault, units_or_fault, report_on, sample_of, run_of}
-use Rattle.turbosmarts.specs.Units.{unit_cycles, unit_answers}
+use Rattle.turbosmarts.specs.Units.{whole_answer, unit_answers}
 use Rattle.turbosmarts.specs.Visits.{visited}
 use Rattle.turbosmarts.proofs.Folds.{visited_is, ending_whole}
 
@@ -68,36 +69,36 @@ units_bounds design length n is = judged_bounds length (unit_count design length
 
 -- the report on a front that folded what was measured
 pub report_is :
-    (latencies : Latencies) (start : State) (design : Design) (test : Test) (len count : ℕ)
+    (config : Config) (start : State) (design : Design) (test : Test) (len count : ℕ)
     (cycles order : List ℕ) (front : Front)
     → 0 < count
-    → ((p : ℕ) → p < count → slice_index cycles p ≡ unit_cycles latencies start design (sampled_unit design p))
+    → ((p : ℕ) → p < count → whole_answer config start design (sampled_unit design p) ≡ Cycles (slice_index cycles p))
     → order ≡ order_of count design.seed → length order ≡ count → ((k : ℕ) → k < count → slice_index order k < count)
     → front ≡ front_of (length order) test (visited cycles order)
     → report_of len count design.unit front.ending front.sums test.z
-    ≡ report_on design test len count (unit_answers latencies start design count)
-report_is latencies start design test len count cycles order front some units is wide places fold =
-    let answers : visited cycles order ≡ unit_answers latencies start design count =
-    visited_is latencies start design count cycles order units is (λ k h. places k (omega arith)) in
+    ≡ report_on design test len count (unit_answers config start design count)
+report_is config start design test len count cycles order front some units is wide places fold =
+    let answers : visited cycles order ≡ unit_answers config start design count =
+    visited_is config start design count cycles order units is (λ k h. places k (omega arith)) in
     let whole = ending_whole test cycles order front (omega arith) fold in
     rw (whole.0, whole.1, answers) refl
 
 -- the stages of a sample, one after the other
 pub sampled_is :
-    (latencies : Latencies) (design : Design) (test : Test) (input : List ℕ) (image : ImageValue) (start : State)
+    (config : Config) (design : Design) (test : Test) (input : List ℕ) (image : ImageValue) (start : State)
     (outcome : Outcome) (exit : Exit) (count : ℕ) (report : List ℕ)
     → image_or_fault (image_of input) ≡ Ok image
     → start ≡ start_of image
     → outcome ≡ outcome_of start design.budget
     → exit_or_fault design.budget outcome ≡ Ok exit
     → units_or_fault (units_of design exit.length) ≡ Ok count
-    → report ≡ report_on design test exit.length count (unit_answers latencies start design count)
-    → sample_of design latencies test input ≡ Ok (record { bytes = report; lines = [] })
+    → report ≡ report_on design test exit.length count (unit_answers config start design count)
+    → sample_of design config test input ≡ Ok (record { bytes = report; lines = [] })
 unfolding sample_of
-sampled_is latencies design test input image start outcome exit count report loads starts ends exits counts reports =
+sampled_is config design test input image start outcome exit count report loads starts ends exits counts reports =
     let ran : exit_or_fault design.budget (outcome_of (start_of image) design.budget) ≡ Ok exit =
     rw (← starts, ← ends) exits in
-    let told : report ≡ report_on design test exit.length count (unit_answers latencies (start_of image) design count) =
+    let told : report ≡ report_on design test exit.length count (unit_answers config (start_of image) design count) =
     rw (← starts) reports in
     rw (loads, ran, counts, told) refl
 

@@ -19,8 +19,7 @@ use Rattle.rv_exec.specs.Machine.{State}
 use Rattle.sample_design.specs.declared.design.Design.{Design}
 use Rattle.sample_design.specs.Order.{order_of}
 use Rattle.sample_design.specs.Units.{sampled_unit}
-use Rattle.turbosmarts.specs.declared.latency.Latencies.{Latencies}
-use Rattle.turbosmarts.specs.Units.{unit_cycles, unit_answers}
+use Rattle.turbosmarts.specs.Units.{whole_answer, unit_answers}
 use Rattle.turbosmarts.specs.Visits.{visited, ArePlaces}
 
 -- the front is that of the first so many answers, and goes on
@@ -127,25 +126,25 @@ ending_whole test cycles order front some is =
     (ap (λ (f : Front). f.ending) fold ∙ whole.0, ap (λ (f : Front). f.sums) fold ∙ whole.1)
 
 same_answers :
-    (cycles order : List ℕ) (answer : ℕ → ℕ)
-    → ((k : ℕ) → k < length order → slice_index cycles (slice_index order k) ≡ answer (slice_index order k))
-    → map (λ p. Cycles (slice_index cycles p)) order ≡ map (λ p. Cycles (answer p)) order
+    (cycles order : List ℕ) (answer : ℕ → Answer)
+    → ((k : ℕ) → k < length order → answer (slice_index order k) ≡ Cycles (slice_index cycles (slice_index order k)))
+    → map (λ p. Cycles (slice_index cycles p)) order ≡ map answer order
 same_answers cycles [] answer same = refl
 same_answers cycles (p ∷ order) answer same =
-    let first : slice_index cycles p ≡ answer p = same 0 (omega arith) in
-    let others : map (λ p. Cycles (slice_index cycles p)) order ≡ map (λ p. Cycles (answer p)) order =
+    let first : answer p ≡ Cycles (slice_index cycles p) = same 0 (omega arith) in
+    let others : map (λ p. Cycles (slice_index cycles p)) order ≡ map answer order =
     same_answers cycles order answer (λ k h. same (suc k) (omega arith)) in
-    ap (λ (c : ℕ). Cycles c ∷ map (λ p. Cycles (slice_index cycles p)) order) first
-    ∙ ap (λ (rest : List Answer). Cycles (answer p) ∷ rest) others
+    ap (λ (a : Answer). a ∷ map (λ p. Cycles (slice_index cycles p)) order) (sym first)
+    ∙ ap (λ (rest : List Answer). answer p ∷ rest) others
 
 -- what was measured, visited in order, are the answers of the units
 pub visited_is :
-    (latencies : Latencies) (start : State) (design : Design) (count : ℕ) (cycles order : List ℕ)
-    → ((p : ℕ) → p < count → slice_index cycles p ≡ unit_cycles latencies start design (sampled_unit design p))
+    (config : Config) (start : State) (design : Design) (count : ℕ) (cycles order : List ℕ)
+    → ((p : ℕ) → p < count → whole_answer config start design (sampled_unit design p) ≡ Cycles (slice_index cycles p))
     → order ≡ order_of count design.seed → ArePlaces order count
-    → visited cycles order ≡ unit_answers latencies start design count
+    → visited cycles order ≡ unit_answers config start design count
 unfolding visited unit_answers
-visited_is latencies start design count cycles order units is places =
-    same_answers cycles order (λ p. unit_cycles latencies start design (sampled_unit design p))
+visited_is config start design count cycles order units is places =
+    same_answers cycles order (λ p. whole_answer config start design (sampled_unit design p))
     (λ k h. units (slice_index order k) (places k h))
-    ∙ ap (map (λ p. Cycles (unit_cycles latencies start design (sampled_unit design p)))) is
+    ∙ ap (map (λ p. whole_answer config start design (sampled_unit design p))) is

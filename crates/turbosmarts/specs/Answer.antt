@@ -5,6 +5,7 @@ use Rattle.confidence.specs.declared.answer.Answer.{Answer as UnitAnswer}
 use Rattle.confidence.specs.declared.verdict.Test.{Test}
 use Rattle.elf_image.specs.declared.fault.ImageFault.{ImageFault}
 use Rattle.elf_image.specs.Image.{ImageValue, image_of}
+use Rattle.hierarchy.specs.declared.config.Config.{Config}
 use Rattle.ordered_fold.specs.Ending.{ending_of, sums_at_end}
 use Rattle.rv_machine.specs.declared.outcome.Outcome.{Outcome}
 use Rattle.rv_machine.specs.declared.outcome.Outcome.TheVariants.{Exited, Trapped, Spent}
@@ -27,7 +28,6 @@ use Rattle.smarts_text.specs.Report.{report_of}
 use Rattle.smarts_text.specs.Texts.{exit_line}
 use Rattle.turbosmarts.specs.declared.fault.InputFault.{InputFault}
 use Rattle.turbosmarts.specs.declared.fault.InputFault.TheVariants as faults
-use Rattle.turbosmarts.specs.declared.latency.Latencies.{Latencies}
 use Rattle.turbosmarts.specs.Faults.{status_of}
 use Rattle.turbosmarts.specs.Units.{unit_answers}
 
@@ -69,12 +69,12 @@ report_on design test length count answers =
     report_of length count design.unit (ending_of test answers) (sums_at_end test answers) test.z
 
 -- the report of a sample of the program in the input, or the first fault: of the image, of its run, of its units
-unfoldable pub sample_of : Design → Latencies → Test → List ℕ → Result Written InputFault
-sample_of design latencies test input = do
+unfoldable pub sample_of : Design → Config → Test → List ℕ → Result Written InputFault
+sample_of design config test input = do
   image ← image_or_fault (image_of input)
   exit ← exit_or_fault design.budget (outcome_of (start_of image) design.budget)
   count ← units_or_fault (units_of design exit.length)
-  Ok (record { bytes = report_on design test exit.length count (unit_answers latencies (start_of image) design count); lines = [] })
+  Ok (record { bytes = report_on design test exit.length count (unit_answers config (start_of image) design count); lines = [] })
 
 -- the output of the program in the input, or the first fault: of the image, of its run
 unfoldable pub run_of : ℕ → List ℕ → Result Written InputFault
@@ -84,8 +84,7 @@ run_of budget input = do
   Ok (record { bytes = output_after (start_of image) budget; lines = exit_line exit.code exit.length })
 
 abbrev pub written_by : Command → List ℕ → Result Written InputFault
-written_by (Sample design ruu mul div l1 test) input =
-    sample_of design (record { mul = mul; div = div; l1 = l1 }) test input
+written_by (Sample design config test) input = sample_of design config test input
 written_by (Run budget) input = run_of budget input
 
 -- the status that a call ends with, and what it writes and tells where it is done

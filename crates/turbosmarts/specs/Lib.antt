@@ -2,6 +2,8 @@ pub mod Answer
 pub mod Ends
 pub mod Faults
 pub mod Parts
+pub mod Processors
+pub mod Shown
 pub mod Tells
 pub mod Units
 pub mod Visits

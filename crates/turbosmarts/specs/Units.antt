@@ -1,47 +1,56 @@
--- Units of a run, and the cycles that they take on the scalar machine, which does one instruction after the other.
-use Rattle.std.specs.Prelude.{ℕ, List, drop, map, sum_by}
-use Rattle.std.specs.List.{range_with_len}
+-- Units of a run, and the cycles that they take on a processor.
+use Rattle.std.specs.Prelude.{ℕ, List, Bool, true, false, map, Result, Ok, Err}
 use Rattle.confidence.specs.declared.answer.Answer.{Answer}
-use Rattle.confidence.specs.declared.answer.Answer.TheVariants.{Cycles}
-use Rattle.rv_exec.specs.Machine.{State, Outcome, Went, Stopped}
-use Rattle.rv_isa.specs.declared.roles.Class.{Class}
-use Rattle.rv_isa.specs.declared.roles.Class.TheVariants as class
-use Rattle.rv_machine.specs.Running.{step_at}
+use Rattle.confidence.specs.declared.answer.Answer.TheVariants.{Cycles, Fault}
+use Rattle.confidence.specs.declared.answer.PointKind.{PointKind}
+use Rattle.confidence.specs.declared.answer.PointKind.TheVariants as kinds
+use Rattle.hierarchy.specs.declared.config.Config.{Config}
+use Rattle.hierarchy.specs.declared.marked.Marked.{Marked}
+use Rattle.hierarchy.specs.References.{warmed}
+use Rattle.hierarchy.specs.Runs.{Halt, Trapped, AfterExit, run_of, trace}
+use Rattle.ruu_timing.specs.Scalar.{scalar_cycles}
+use Rattle.ruu_timing.specs.Times.{cycles}
+use Rattle.rv_exec.specs.declared.event.TrapKind.{TrapKind}
+use Rattle.rv_exec.specs.declared.event.TrapKind.TheVariants as traps
+use Rattle.rv_exec.specs.Machine.{State}
 use Rattle.sample_design.specs.declared.design.Design.{Design}
-use Rattle.sample_design.specs.declared.units.Window.{Window}
 use Rattle.sample_design.specs.Order.{order_of}
 use Rattle.sample_design.specs.Units.{sampled_unit, window_of}
-use Rattle.turbosmarts.specs.declared.latency.Latencies.{Latencies}
 
--- the cycles that an instruction of a class takes
-abbrev pub latency_of : Latencies → Class → ℕ
-latency_of latencies class.Alu = 1
-latency_of latencies class.Mul = latencies.mul
-latency_of latencies class.Div = latencies.div
-latency_of latencies class.Load = latencies.l1
-latency_of latencies class.Store = 1
-latency_of latencies class.Control = 1
-latency_of latencies class.Ecall = 1
+-- the cycles of a trace from instruction `skip` on: with a register update unit, or of one instruction after
+-- the other
+abbrev pub cycles_by : Bool → Config → List Marked → ℕ → ℕ
+cycles_by true config marks skip = cycles config.widths marks skip
+cycles_by false config marks skip = scalar_cycles config.latencies marks skip
 
-abbrev pub cycles_at : Latencies → Outcome → ℕ
-cycles_at latencies (Went event after) = latency_of latencies event.class
-cycles_at latencies (Stopped kind) = 0
+abbrev pub cycles_of : Config → List Marked → ℕ → ℕ
+cycles_of config marks skip = cycles_by config.ruu config marks skip
 
--- what the instructions of a window lead to, one after the other
-abbrev pub trace_of : State → Window → List Outcome
-trace_of start window = map (step_at start) (range_with_len window.start window.len)
+abbrev pub kind_of : TrapKind → PointKind
+kind_of traps.Illegal = kinds.Illegal
+kind_of traps.BadTarget = kinds.BadTarget
+kind_of traps.MisalignedLoad = kinds.MisalignedLoad
+kind_of traps.MisalignedStore = kinds.MisalignedStore
+kind_of traps.Missing = kinds.Missing
+kind_of traps.Break = kinds.Break
+kind_of traps.BadBuffer = kinds.BadBuffer
 
--- the cycles of the instructions behind the first so many of a trace
-abbrev pub scalar_cycles : Latencies → ℕ → List Outcome → ℕ
-scalar_cycles latencies skip trace = sum_by (cycles_at latencies) (drop skip trace)
+-- the answer that a trace gives, and the fault of one that couldn't be had
+abbrev pub answer_by : Config → ℕ → Result (List Marked) Halt → Answer
+answer_by config skip (Ok marks) = Cycles (cycles_of config marks skip)
+answer_by config skip (Err (Trapped trap)) = Fault (record { kind = kind_of trap.kind; pc = trap.pc })
+answer_by config skip (Err (AfterExit pc)) = Fault (record { kind = kinds.AfterExit; pc = pc })
 
--- the cycles of a unit are those of its instructions in the trace of its window
-unfoldable pub unit_cycles : Latencies → State → Design → ℕ → ℕ
-unit_cycles latencies start design unit =
+-- The answer of a unit: its window is timed from the machine at the window's start, from plain caches that were
+-- fed every reference up to there, and from a predictor that saw every branch and jump up to there.
+unfoldable pub whole_answer : Config → State → Design → ℕ → Answer
+whole_answer config start design unit =
     let window = window_of design unit in
-    scalar_cycles latencies window.skip (trace_of start window)
+    let before = run_of start window.start in
+    answer_by config window.skip
+    (trace config.latencies (warmed config.places config.kind before.events) before.after window.len)
 
 -- the answers of the sampled units, in the order of visits
-unfoldable pub unit_answers : Latencies → State → Design → ℕ → List Answer
-unit_answers latencies start design count =
-    map (λ p. Cycles (unit_cycles latencies start design (sampled_unit design p))) (order_of count design.seed)
+unfoldable pub unit_answers : Config → State → Design → ℕ → List Answer
+unit_answers config start design count =
+    map (λ p. whole_answer config start design (sampled_unit design p)) (order_of count design.seed)

@@ -3,8 +3,11 @@ ghost use Rattle.confidence.specs.Sums.{IsCycles};
 ghost use Rattle.rv_exec.specs.Machine.{State};
 ghost use Rattle.rv_machine.specs.declared.outcome.Outcome.TheVariants.{Exited};
 ghost use Rattle.rv_machine.specs.Machine.{started};
-ghost use Rattle.turbosmarts.specs.declared.latency.Latencies.{Latencies as LatenciesValue};
-ghost use Rattle.turbosmarts.specs.Units.{unit_answers, unit_cycles};
+ghost use Rattle.confidence.specs.declared.answer.Answer.TheVariants.{Cycles};
+ghost use Rattle.hierarchy.specs.declared.config.Config.{Config as ConfigValue};
+ghost use Rattle.hierarchy.specs.Config.{IsConfig};
+ghost use Rattle.rv_machine.specs.Running.{outcome_of};
+ghost use Rattle.turbosmarts.specs.Units.{unit_answers, whole_answer};
 ghost use Rattle.confidence.specs.Confidence.{IsInRange};
 ghost use Rattle.elf_image.specs.Image.{image_of};
 ghost use Rattle.sample_design.specs.Design.{IsUsable};
@@ -12,16 +15,18 @@ ghost use Rattle.sample_design.specs.Units.{EndsWithin, sampled_unit, units_of};
 ghost use Rattle.smarts_base.specs.Outcome.{Answers};
 ghost use Rattle.smarts_text.specs.Checks.{IsSound};
 ghost use Rattle.turbosmarts.specs.Answer.{exit_or_fault, image_or_fault, report_on, run_of, sample_of, units_or_fault, written_by};
-ghost use Rattle.turbosmarts.specs.Parts.{AreInRange};
+ghost use Rattle.turbosmarts.specs.Parts.{AreMeasured};
 ghost use Rattle.turbosmarts.specs.Writtens.{written_view};
 
 use crate::ending::Exit;
 use crate::fault::InputFault;
 use crate::folding::fold_in_order;
-use crate::latency::Latencies;
-use crate::measuring::measure;
+use crate::measuring::{Measured, measure};
+use crate::out_of_order::OutOfOrder;
+use crate::scalar::Scalar;
 use confidence::Test;
 use elf_image::{Image, read_image};
+use hierarchy::Config;
 use rv_machine::{Outcome, Whole};
 use sample_design::{Design, UnitsFault, visit_order};
 use smarts_base::{NoMemory, Refusal};
@@ -47,19 +52,9 @@ pub fn written_by(
     match command {
         Command::Sample {
             design,
-            mul,
-            div,
-            l1,
+            config,
             test,
-            ..
-        } => {
-            let latencies = Latencies {
-                mul: *mul,
-                div: *div,
-                l1: *l1,
-            };
-            sample(alloc, design, &latencies, test, input)
-        }
+        } => sample(alloc, design, config, test, input),
         Command::Run { budget } => run(alloc, *budget, input),
     }
 }
@@ -69,18 +64,18 @@ pub fn written_by(
 fn sample(
     alloc: Global,
     design: &Design,
-    latencies: &Latencies,
+    config: &Config,
     test: &Test,
     input: &[u8],
 ) -> Result<Written, Refusal<InputFault>>
     requires design { IsUsable design.now }
-    requires latencies { AreInRange latencies.now }
+    requires config { IsConfig config.now }
     requires test { IsInRange test.now }
-    ensures { Answers written_view result (sample_of design.now latencies.now test.now input.now) }
+    ensures { Answers written_view result (sample_of design.now config.now test.now input.now) }
 {
     let image = image_in(alloc, input)?;
     let mut whole = machine_of(alloc, image, false)?;
-    let measured = measure(alloc, &mut whole, design, latencies)?;
+    let measured = measured_on(alloc, &mut whole, design, config)?;
     let exit = exit_of(&measured.outcome, design.budget)?;
     let count = count_in(design, exit.length)?;
     let report = report_on(alloc, design, test, exit.length, count, &measured.cycles)?;
@@ -88,6 +83,31 @@ fn sample(
         bytes: report,
         exit: None,
     })
+}
+
+// How the run ends, and the cycles of its sampled units on the processor that is asked for.
+fn measured_on(
+    alloc: Global,
+    whole: &mut Whole,
+    design: &Design,
+    config: &Config,
+) -> Result<Measured, NoMemory>
+    requires running { whole.old.state.exit ≡ None }
+    requires design { IsUsable design.now }
+    requires config { IsConfig config.now }
+    ensures outcome { IfOk result (λ measured.
+        measured.outcome ≡ outcome_of whole.old.state design.now.budget) }
+    ensures units { IfOk result (λ measured. (code len : ℕ) → measured.outcome ≡ Exited code len →
+        AreMeasured config.now whole.old.state design.now len measured.cycles.items) }
+{
+    if config.ruu {
+        let longest = design.warm + design.unit;
+        let mut processor = OutOfOrder::new(alloc, config, longest)?;
+        measure(alloc, whole, design, &mut processor)
+    } else {
+        let mut processor = Scalar::new(config);
+        measure(alloc, whole, design, &mut processor)
+    }
 }
 
 // The report on a run of that length with so many sampled units, of these cycles.
@@ -106,10 +126,10 @@ fn report_on(
     requires few { count ≤ 65536 }
     requires units { (p : ℕ) → p < count → p < length cycles.now }
     requires cycles { (p : ℕ) → p < length cycles.now → IsCycles (slice_index cycles.now p) }
-    ensures { (latencies : LatenciesValue) (start : State)
-        → ((p : ℕ) → p < count → slice_index cycles.now p ≡ unit_cycles latencies start design.now (sampled_unit design.now p))
+    ensures { (config : ConfigValue) (start : State)
+        → ((p : ℕ) → p < count → whole_answer config start design.now (sampled_unit design.now p) ≡ Cycles (slice_index cycles.now p))
         → IfOk result (λ report. report.items ≡ report_on design.now test.now instructions count
-        (unit_answers latencies start design.now count)) }
+        (unit_answers config start design.now count)) }
 {
     let order = visit_order(alloc, count, design.seed)?;
     let front = fold_in_order(cycles, &order, test);

@@ -8,9 +8,11 @@ mod ending;
 mod fault;
 mod folding;
 mod help;
-mod latency;
 mod measuring;
 mod meter;
+mod out_of_order;
+mod processor;
+mod scalar;
 mod telling;
 #[cfg(test)]
 mod tests;

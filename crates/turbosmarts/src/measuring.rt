@@ -1,12 +1,14 @@
-ghost use Rattle.std.specs.Prelude.{◌≡◌, ◌≤◌, ◌<◌, ◌+◌, ℕ, None, IfOk, length};
+ghost use Rattle.std.specs.Prelude.{◌≡◌, ◌≤◌, ◌<◌, ◌+◌, ℕ, None, [], IfOk, length};
+ghost use Rattle.hierarchy.specs.Config.{IsConfig};
 ghost use Rattle.rv_machine.specs.declared.outcome.Outcome.TheVariants.{Exited};
 ghost use Rattle.rv_machine.specs.Machine.{Machine, IsUnderWay};
 ghost use Rattle.rv_machine.specs.Running.{outcome_of};
 ghost use Rattle.sample_design.specs.Design.{IsUsable};
-ghost use Rattle.turbosmarts.specs.Parts.{AreInRange, AreMeasured, IsPart};
+ghost use Rattle.turbosmarts.specs.Parts.{AreMeasured, IsPart};
+ghost use Rattle.turbosmarts.specs.Shown.{events_to};
 
-use crate::latency::{Latencies, latency_of};
 use crate::meter::Meter;
+use crate::processor::Processor;
 use rv_exec::Trap;
 use rv_machine::{MachineFault, Outcome, Whole};
 use sample_design::Design;
@@ -36,34 +38,35 @@ pub enum PartEnd {
 pub struct Part {
     /// How many instructions ran; an exit counts, and a trap doesn't.
     pub ran: u32,
-    /// Their cycles.
-    pub cycles: u32,
     pub end: PartEnd,
 }
 
-/// Runs the program for at most the design's budget, and takes the cycles of its sampled units on the way.
-/// It keeps no more of the run than one number a unit.
-pub fn measure(
+/// Runs the program for at most the design's budget, shows it to the processor, and asks for the cycles of its
+/// sampled units on the way. It keeps no more of the run than one number a unit.
+pub fn measure<P: Processor>(
     alloc: Global,
     whole: &mut Whole,
     design: &Design,
-    latencies: &Latencies,
+    processor: &mut P,
 ) -> Result<Measured, NoMemory>
     requires running { whole.old.state.exit ≡ None }
     requires design { IsUsable design.now }
-    requires latencies { AreInRange latencies.now }
+    requires config { IsConfig (P.config processor.old) }
+    requires longest { design.now.warm + design.now.unit ≤ P.longest processor.old }
+    requires shown { P.shown processor.old 0 [] }
     ensures outcome { IfOk result (λ measured.
         measured.outcome ≡ outcome_of whole.old.state design.now.budget) }
     ensures units { IfOk result (λ measured. (code len : ℕ) → measured.outcome ≡ Exited code len →
-        AreMeasured latencies.now whole.old.state design.now len measured.cycles.items) }
+        AreMeasured (P.config processor.old) whole.old.state design.now len measured.cycles.items) }
 {
     let mut meter = Meter::new(alloc, design);
     let size = u64::from(design.unit);
     for unit in 0..design.budget.div_ceil(size) {
         let begin = unit * size;
         let len = size.min(design.budget - begin) as u32;
-        let part = run_part(whole, len, latencies)?;
-        meter.take(design, unit, &part)?;
+        processor.begin_unit();
+        let part = run_part(whole, len, processor)?;
+        meter.take(design, unit, part.ran, processor)?;
         let ran = begin + u64::from(part.ran);
         match part.end {
             PartEnd::Full => {}
@@ -88,38 +91,36 @@ pub fn measure(
 }
 
 // Runs at most `len` instructions.
-fn run_part(whole: &mut Whole, len: u32, latencies: &Latencies) -> Result<Part, NoMemory>
+fn run_part<P: Processor>(whole: &mut Whole, len: u32, processor: &mut P) -> Result<Part, NoMemory>
     requires running { whole.old.state.exit ≡ None }
-    requires len { len ≤ 10000 }
-    requires latencies { AreInRange latencies.now }
-    ensures part { (start : Machine) (at : ℕ) → IsUnderWay start at whole.old →
-        IfOk result (IsPart latencies.now start at len whole.new) }
+    requires config { IsConfig (P.config processor.old) }
+    ensures config { P.config processor.new ≡ P.config processor.old }
+    ensures longest { P.longest processor.new ≡ P.longest processor.old }
+    ensures part { (start : Machine) (at begun : ℕ) → IsUnderWay start at whole.old
+        → P.shown processor.old begun (events_to start.state at)
+        → IfOk result (IsPart (λ n. P.shown processor.new begun (events_to start.state n)) start at len whole.new) }
 {
-    let mut cycles = 0;
     for done in 0..len {
         let event = match whole.advance() {
             Ok(event) => event,
             Err(MachineFault::Trap(trap)) => {
                 return Ok(Part {
                     ran: done,
-                    cycles,
                     end: PartEnd::Trapped(trap),
                 });
             }
             Err(MachineFault::NoMemory) => return Err(NoMemory),
         };
-        cycles += latency_of(latencies, event.class);
+        processor.see(&event);
         if let Some(code) = whole.core().exit {
             return Ok(Part {
                 ran: done + 1,
-                cycles,
                 end: PartEnd::Exited(code),
             });
         }
     }
     Ok(Part {
         ran: len,
-        cycles,
         end: PartEnd::Full,
     })
 }

@@ -1,11 +1,13 @@
-ghost use Rattle.std.specs.Prelude.{◌≡◌, ◌≤◌, ◌<◌, ◌+◌, ◌*◌, ℕ, [], OnOk, vec_len};
-ghost use Rattle.confidence.specs.Sums.{IsCycles};
+ghost use Rattle.std.specs.Prelude.{◌≡◌, ◌≤◌, ◌<◌, ◌+◌, ◌*◌, ℕ, List, None, [], OnOk, vec_len};
+ghost use Rattle.hierarchy.specs.Config.{IsConfig};
+ghost use Rattle.rv_exec.specs.declared.event.Event.{Event as EventValue};
 ghost use Rattle.rv_exec.specs.Machine.{State};
 ghost use Rattle.sample_design.specs.Design.{IsUsable};
-ghost use Rattle.turbosmarts.specs.declared.latency.Latencies.{Latencies as LatenciesValue};
-ghost use Rattle.turbosmarts.specs.Parts.{IsMeasuring, cycles_from, units_ended};
+ghost use Rattle.sample_design.specs.Units.{window_of};
+ghost use Rattle.turbosmarts.specs.Parts.{HasShown, IsMeasuring, units_ended};
+ghost use Rattle.turbosmarts.specs.Shown.{CanTell, events_to};
 
-use crate::measuring::Part;
+use crate::processor::Processor;
 use sample_design::Design;
 use smarts_base::NoMemory;
 use std::alloc::Global;
@@ -33,23 +35,36 @@ impl Meter {
         }
     }
 
-    /// Takes in what ran of a unit, which is kept where it is a sampled unit and ran whole.
+    /// Asks the processor for the cycles of a unit of which so many instructions ran, where it is a sampled unit
+    /// and ran whole.
     #[tactic(auto, using(crate::proofs::Measures::measuring_cut, crate::proofs::Measures::measuring_kept))]
-    pub fn take(&mut self, design: &Design, unit: u64, part: &Part) -> Result<(), NoMemory>
+    pub fn take<P: Processor>(
+        &mut self,
+        design: &Design,
+        unit: u64,
+        ran: u32,
+        processor: &mut P,
+    ) -> Result<(), NoMemory>
         requires design { IsUsable design.now }
+        requires config { IsConfig (P.config processor.old) }
         requires next { self.old.next ≤ 1000000 * (vec_len self.old.cycles + 1) }
         requires few { vec_len self.old.cycles ≤ 65536 }
-        requires valid { part.now.ran ≡ design.now.unit → IsCycles part.now.cycles }
-        ensures { (latencies : LatenciesValue) (start : State)
-            → IsMeasuring latencies start design.now unit self.old.next self.old.cycles.items
-            → part.now.cycles ≡ cycles_from latencies start (unit * design.now.unit) part.now.ran
-            → OnOk result (IsMeasuring latencies start design.now
-            (units_ended design.now.unit unit part.now.ran) self.new.next self.new.cycles.items) }
+        requires shown { ran ≡ design.now.unit
+            → CanTell (P.shown processor.old) (P.longest processor.old) (window_of design.now unit) }
+        ensures config { P.config processor.new ≡ P.config processor.old }
+        ensures longest { P.longest processor.new ≡ P.longest processor.old }
+        ensures shown { (begun : ℕ) (es : List EventValue) → P.shown processor.old begun es → P.shown processor.new begun es }
+        ensures measured { (start : State)
+            → IsMeasuring (P.config processor.old) start design.now unit self.old.next self.old.cycles.items
+            → HasShown (λ n. P.shown processor.old (unit * design.now.unit) (events_to start n)) start (unit * design.now.unit + ran)
+            → OnOk result (IsMeasuring (P.config processor.old) start design.now
+            (units_ended design.now.unit unit ran) self.new.next self.new.cycles.items) }
     {
-        if part.ran != design.unit || unit != self.next || self.cycles.len() >= MOST_UNITS {
+        if ran != design.unit || unit != self.next || self.cycles.len() >= MOST_UNITS {
             return Ok(());
         }
-        self.cycles.push(part.cycles)?;
+        let cycles = processor.cycles(&design.window(unit));
+        self.cycles.push(cycles)?;
         self.next += u64::from(design.every);
         Ok(())
     }

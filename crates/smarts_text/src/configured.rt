@@ -1,0 +1,165 @@
+ghost use Rattle.std.specs.Prelude.{◌≡◌, ◌≤◌, map, string_bytes};
+ghost use Rattle.hierarchy.specs.Config.{ArePlaces, IsCacheShape, IsConfig, IsTlbShape};
+ghost use Rattle.hierarchy.specs.Widths.{AreLatencies, AreWidths};
+ghost use Rattle.predictor.specs.Kind.{IsKind};
+ghost use Rattle.smarts_text.specs.Asked.{number_in};
+ghost use Rattle.smarts_text.specs.Checks.{IsUsual};
+ghost use Rattle.smarts_text.specs.Configured.{cache_in, config_in, kind_in, latencies_in, places_in, tlb_in, usual_cache, usual_kind, usual_tlb, widths_in};
+ghost use Rattle.smarts_text.specs.Keys as key_specs;
+ghost use Rattle.smarts_text.specs.Rows.{key_of};
+
+use crate::asked::{number, wants_ruu};
+use crate::keys::{self, Form, Row};
+use crate::shapes::{read_cache, read_kind, read_tlb};
+use crate::words::given;
+use hierarchy::{Config, Latencies, Places, Widths};
+use lru_plain::Geometry;
+use predictor::{PredictorKind, Scheme};
+
+// The defaults of keys. One of another form has the smallest.
+fn usual_cache(form: Form) -> Geometry
+    requires { IsUsual form }
+    ensures value { result ≡ usual_cache form }
+    ensures shape { IsCacheShape result }
+{
+    match form {
+        Form::Cache(line_log, sets_log, ways) => Geometry::new(line_log, sets_log, ways).unwrap(),
+        _ => Geometry::new(4, 0, 1).unwrap(),
+    }
+}
+
+fn usual_tlb(form: Form) -> Geometry
+    requires { IsUsual form }
+    ensures value { result ≡ usual_tlb form }
+    ensures shape { IsTlbShape result }
+{
+    match form {
+        Form::Tlb(sets_log, ways) => Geometry::new(12, sets_log, ways).unwrap(),
+        _ => Geometry::new(12, 0, 1).unwrap(),
+    }
+}
+
+fn usual_kind(form: Form) -> PredictorKind
+    requires { IsUsual form }
+    ensures value { result ≡ usual_kind form }
+    ensures kind { IsKind result }
+{
+    match form {
+        Form::Kind(usual) => usual,
+        _ => PredictorKind {
+            scheme: Scheme::Bimodal,
+            bits: 4,
+            target_log: 2,
+            depth: 0,
+        },
+    }
+}
+
+// The cache of a key that has caches.
+#[tactic(auto, unfolding(crate::specs::Configured::cache_in))]
+fn cache(words: &[String], key: &Row) -> Geometry
+    requires { IsUsual key.now.2 }
+    ensures value { result ≡ cache_in (map string_bytes words.now) (key_of key.now) }
+    ensures shape { IsCacheShape result }
+{
+    let usual = usual_cache(key.2);
+    let Some(text) = given(key.0, words) else {
+        return usual;
+    };
+    read_cache(text).unwrap_or(usual)
+}
+
+#[tactic(auto, unfolding(crate::specs::Configured::tlb_in))]
+fn tlb(words: &[String], key: &Row) -> Geometry
+    requires { IsUsual key.now.2 }
+    ensures value { result ≡ tlb_in (map string_bytes words.now) (key_of key.now) }
+    ensures shape { IsTlbShape result }
+{
+    let usual = usual_tlb(key.2);
+    let Some(text) = given(key.0, words) else {
+        return usual;
+    };
+    read_tlb(text).unwrap_or(usual)
+}
+
+#[tactic(auto, unfolding(crate::specs::Configured::kind_in))]
+fn kind(words: &[String], key: &Row) -> PredictorKind
+    requires { IsUsual key.now.2 }
+    ensures value { result ≡ kind_in (map string_bytes words.now) (key_of key.now) }
+    ensures kind { IsKind result }
+{
+    let usual = usual_kind(key.2);
+    let Some(text) = given(key.0, words) else {
+        return usual;
+    };
+    read_kind(text).unwrap_or(usual)
+}
+
+#[tactic(auto, unfolding(crate::specs::Configured::places_in))]
+fn places(words: &[String]) -> Places<Geometry>
+    ensures value { result ≡ places_in (map string_bytes words.now) }
+    ensures shapes { ArePlaces result }
+{
+    Places {
+        l1i: cache(words, &keys::L1I),
+        l1d: cache(words, &keys::L1D),
+        l2: cache(words, &keys::L2),
+        itlb: tlb(words, &keys::ITLB),
+        dtlb: tlb(words, &keys::DTLB),
+    }
+}
+
+#[tactic(auto, unfolding(crate::specs::Configured::widths_in))]
+fn widths(words: &[String]) -> Widths
+    requires { number_in (map string_bytes words.now) key_specs.lsq_key ≤ number_in (map string_bytes words.now) key_specs.ruu_key }
+    ensures value { result ≡ widths_in (map string_bytes words.now) }
+    ensures ranges { AreWidths result }
+{
+    Widths {
+        fetch: number(words, &keys::FETCH) as u32,
+        dispatch: number(words, &keys::DISPATCH) as u32,
+        issue: number(words, &keys::ISSUE) as u32,
+        retire: number(words, &keys::RETIRE) as u32,
+        queue: number(words, &keys::QUEUE) as u32,
+        ruu: number(words, &keys::RUU) as u32,
+        lsq: number(words, &keys::LSQ) as u32,
+        penalty: number(words, &keys::PENALTY) as u32,
+        alus: number(words, &keys::ALUS) as u32,
+        muls: number(words, &keys::MULS) as u32,
+        divs: number(words, &keys::DIVS) as u32,
+        loads: number(words, &keys::LOADS) as u32,
+        stores: number(words, &keys::STORES) as u32,
+        branches: number(words, &keys::BRANCHES) as u32,
+    }
+}
+
+#[tactic(auto, unfolding(crate::specs::Configured::latencies_in))]
+fn latencies(words: &[String]) -> Latencies
+    ensures value { result ≡ latencies_in (map string_bytes words.now) }
+    ensures ranges { AreLatencies result }
+{
+    Latencies {
+        mul: number(words, &keys::MULLAT) as u32,
+        div: number(words, &keys::DIVLAT) as u32,
+        l1: number(words, &keys::L1LAT) as u32,
+        l2: number(words, &keys::L2LAT) as u32,
+        mem: number(words, &keys::MEMLAT) as u32,
+        tlb: number(words, &keys::TLBLAT) as u32,
+    }
+}
+
+/// The processor that the words ask for.
+#[tactic(auto, unfolding(crate::specs::Configured::config_in))]
+pub fn config(words: &[String]) -> Config
+    requires { number_in (map string_bytes words.now) key_specs.lsq_key ≤ number_in (map string_bytes words.now) key_specs.ruu_key }
+    ensures value { result ≡ config_in (map string_bytes words.now) }
+    ensures ranges { IsConfig result }
+{
+    Config {
+        ruu: wants_ruu(words),
+        places: places(words),
+        kind: kind(words, &keys::PREDICTOR),
+        widths: widths(words),
+        latencies: latencies(words),
+    }
+}

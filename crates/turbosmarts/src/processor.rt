@@ -1,0 +1,48 @@
+ghost use Rattle.std.specs.Prelude.{◌≡◌, ℕ, List, ◌++◌, [], ◌∷◌, length};
+ghost use Rattle.confidence.specs.Sums.{IsCycles};
+ghost use Rattle.hierarchy.specs.declared.config.Config.{Config as ConfigValue};
+ghost use Rattle.hierarchy.specs.Config.{IsConfig};
+ghost use Rattle.rv_exec.specs.declared.event.Event.{Event as EventValue};
+ghost use Rattle.rv_exec.specs.Events.{IsWellFormed};
+ghost use Rattle.turbosmarts.specs.Shown.{CanTell, IsAtEnd, window_cycles};
+
+use rv_exec::Event;
+use sample_design::Window;
+
+/// A processor that is shown a run, one instruction after the other, and can tell the cycles of a
+/// unit at the unit's end.
+pub trait Processor {
+    /// What it is built from.
+    ghost config: { Self → ConfigValue };
+
+    /// The most instructions of a window that it can tell the cycles of.
+    ghost longest: { Self → ℕ };
+
+    /// It has been shown these instructions since the start of the run, and the latest unit began
+    /// behind so many of them.
+    ghost shown: { Self → ℕ → List EventValue → Type 0 };
+
+    /// A unit begins.
+    fn begin_unit(&mut self)
+        ensures config { config self.new ≡ config self.old }
+        ensures longest { longest self.new ≡ longest self.old }
+        ensures shown { (begun : ℕ) (es : List EventValue) → shown self.old begun es → shown self.new (length es) es };
+
+    /// Shows one instruction.
+    fn see(&mut self, event: &Event)
+        requires config { IsConfig (config self.old) }
+        requires event { IsWellFormed event.now }
+        ensures config { config self.new ≡ config self.old }
+        ensures longest { longest self.new ≡ longest self.old }
+        ensures shown { (begun : ℕ) (es : List EventValue) → shown self.old begun es → shown self.new begun (es ++ event.now ∷ []) };
+
+    /// The cycles of the unit that has just ended, by its window.
+    fn cycles(&mut self, window: &Window) -> u32
+        requires config { IsConfig (config self.old) }
+        requires shown { CanTell (shown self.old) (longest self.old) window.now }
+        ensures config { config self.new ≡ config self.old }
+        ensures longest { longest self.new ≡ longest self.old }
+        ensures shown { (begun : ℕ) (es : List EventValue) → shown self.old begun es → shown self.new begun es }
+        ensures value { (begun : ℕ) (es : List EventValue) → shown self.old begun es → IsAtEnd window.now begun es → result ≡ window_cycles (config self.old) es window.now }
+        ensures range { IsCycles result };
+}

@@ -1,0 +1,49 @@
+ghost use Rattle.std.specs.Prelude.{◌≡◌, false, []};
+ghost use Rattle.turbosmarts.specs.Processors.{HasSummed};
+
+use crate::processor::Processor;
+use hierarchy::Config;
+use ruu_timing::scalar_latency;
+use rv_exec::Event;
+use sample_design::Window;
+
+/// The processor that does one instruction after the other. Of a window it needs to see no more than
+/// the unit at its end.
+#[derive(Debug, Drop)]
+pub struct Scalar<'a> {
+    config: &'a Config,
+    /// Cycles of the instructions since the unit began.
+    cycles: u32,
+}
+
+impl<'a> Scalar<'a> {
+    pub fn new(config: &'a Config) -> Scalar<'a>
+        requires { config.now.ruu ≡ false }
+        ensures config { result.config.now ≡ config.now }
+        ensures shown { HasSummed config.now result.cycles 0 [] }
+    {
+        Scalar { config, cycles: 0 }
+    }
+}
+
+impl<'a> Processor for Scalar<'a> {
+    ghost config = { λ p. p.config.now };
+
+    ghost longest = { λ p. 110000 };
+
+    ghost shown = { λ p begun es. HasSummed p.config.now p.cycles begun es };
+
+    fn begin_unit(&mut self) {
+        self.cycles = 0;
+    }
+
+    #[inline(always)]
+    fn see(&mut self, event: &Event) {
+        let latency = scalar_latency(&self.config.latencies, event.class);
+        self.cycles = self.cycles.wrapping_add(latency);
+    }
+
+    fn cycles(&mut self, _window: &Window) -> u32 {
+        self.cycles
+    }
+}
