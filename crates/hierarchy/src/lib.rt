@@ -1,8 +1,18 @@
-//! What a simulated processor is made of, and an instruction with the marks that its timing needs.
+//! What a simulated processor is made of, and what its caches and its predictor make of each
+//! instruction in program order: the marks that its timing needs.
 #![tactic(auto)]
 
+mod config;
+mod laws;
+mod lookup;
 mod marked;
+mod places;
+mod state;
 mod widths;
 
+pub use config::{Config, ConfigFault};
+pub use laws::run_laws;
 pub use marked::Marked;
+pub use places::Places;
+pub use state::State;
 pub use widths::{Latencies, Widths};

@@ -1,0 +1,4 @@
+pub mod Found
+pub mod RunParts
+pub mod Traces
+pub mod Warms

@@ -1,0 +1,140 @@
+-- Marked traces of parts of a run.
+use Rattle.std.proofs.Common.{◌≡◌, ℕ, zero, suc, ◌+◌, List, [], ◌∷◌, ◌++◌, length, drop, refl, sym, ◌∙◌, ap, arith, Option, Some, None, Result, Ok, Err}
+use Rattle.smarts_base.specs.Least.{or_else}
+use Rattle.rv_exec.specs.Machine as machine
+use Rattle.rv_exec.specs.Machine.{Outcome, Went, Stopped}
+use Rattle.rv_exec.specs.Next.{next}
+use Rattle.rv_exec.specs.declared.event.Event.{Event}
+use Rattle.hierarchy.specs.declared.marked.Marked.{Marked}
+use Rattle.hierarchy.specs.declared.state.State.{State}
+use Rattle.hierarchy.specs.declared.widths.Latencies.{Latencies}
+use Rattle.hierarchy.specs.Marking.{mark_of, after_event}
+use Rattle.hierarchy.specs.Runs.{Halt, Run, halted, with_first, steps, run_of, joined, after_events, marks, unless_halted, trace, IsAnnotated}
+use Rattle.hierarchy.proofs.RunParts.{steps_went, runs_split, runs_whole, marks_split, length-marks}
+use Rattle.std.proofs.Math.Seq.{drop-append_seam}
+use Rattle.std.proofs.lemmas.List.Sums.{fold-append}
+
+-- a trace that is whole is the marks of a run that wasn't halted
+record IsWhole (l : Latencies) (s : State) (r : Run) (ms : List Marked) : Type 0 where
+  halt : r.halt ≡ None
+  marks_are : marks l s r.events ≡ ms
+
+whole_by :
+    (l : Latencies) (s : State) (halt : Option Halt) (found ms : List Marked)
+    → unless_halted halt found ≡ Ok ms → (halt ≡ None) × (found ≡ ms)
+whole_by l s None found ms h = (refl, cc)
+whole_by l s (Some halt) found ms h = cc
+
+is_whole :
+    (l : Latencies) (s : State) (m : machine.State) (n : ℕ) (ms : List Marked)
+    → trace l s m n ≡ Ok ms → IsWhole l s (run_of m n) ms
+unfolding trace
+is_whole l s m n ms h =
+    let w = whole_by l s (run_of m n).halt (marks l s (run_of m n).events) ms h in
+    record { halt = w.0; marks_are = w.1 }
+
+from_whole :
+    (l : Latencies) (s : State) (m : machine.State) (n : ℕ) (ms : List Marked)
+    → IsWhole l s (run_of m n) ms → trace l s m n ≡ Ok ms
+unfolding trace
+from_whole l s m n ms w = rw (w.halt, w.marks_are) refl
+
+-- both parts of a run that wasn't halted weren't
+none_first : (x y : Option Halt) → or_else x y ≡ None → x ≡ None
+none_first None y h = refl
+none_first (Some halt) y h = cc
+
+none_second : (x y : Option Halt) → or_else x y ≡ None → y ≡ None
+none_second None y h = h
+none_second (Some halt) y h = cc
+
+drop_seam : (xs ys ms : List Marked) (p : ℕ) → length xs ≡ p → xs ++ ys ≡ ms → ys ≡ drop p ms
+drop_seam xs ys ms p len h = rw (← h, ← len) (sym (drop-append_seam xs ys))
+
+-- a whole run of two parts
+record AreParts (l : Latencies) (s : State) (r t : Run) (ms : List Marked) : Type 0 where
+  first : r.halt ≡ None
+  second : t.halt ≡ None
+  marks_are : marks l s r.events ++ marks l (after_events s r.events) t.events ≡ ms
+
+are_parts :
+    (l : Latencies) (s : State) (r t : Run) (ms : List Marked)
+    → IsWhole l s (joined r t) ms → AreParts l s r t ms
+are_parts l s r t ms w =
+    record {
+      first = none_first r.halt t.halt w.halt;
+      second = none_second r.halt t.halt w.halt;
+      marks_are = sym (marks_split l s r.events t.events) ∙ w.marks_are;
+    }
+
+pub traces_split :
+    (l : Latencies) (s : State) (m : machine.State) (p n : ℕ) (ms : List Marked)
+    → trace l s m (p + n) ≡ Ok ms
+    → trace l (after_events s (run_of m p).events) (run_of m p).after n ≡ Ok (drop p ms)
+traces_split l s m p n ms h =
+    let r : Run = run_of m p in
+    let t : Run = run_of (run_of m p).after n in
+    let whole : IsWhole l s (joined r t) ms = rw (runs_split m p n) at (is_whole l s m (p + n) ms h) in
+    let parts : AreParts l s r t ms = are_parts l s r t ms whole in
+    let len : length (marks l s r.events) ≡ p =
+    length-marks l s r.events ∙ runs_whole m p parts.first in
+    from_whole l (after_events s r.events) r.after n (drop p ms)
+    (record {
+      halt = parts.second;
+      marks_are = drop_seam (marks l s r.events) _ ms p len parts.marks_are;
+    })
+
+-- a run of one instruction
+one_step : (m after : machine.State) (e : Event) → m.exit ≡ None → next m ≡ Went e after
+    → run_of m 1 ≡ record { events = e ∷ []; after = after; halt = None }
+unfolding run_of
+one_step m after e exit is = steps_went m.exit (next m) m (λ t. run_of t 0) e after exit is
+
+-- one more instruction is done
+one_more :
+    (m now after : machine.State) (n : ℕ) (e : Event) → now ≡ (run_of m n).after → now.exit ≡ None
+    → next now ≡ Went e after
+    → run_of m (n + 1) ≡ joined (run_of m n) (record { events = e ∷ []; after = after; halt = None })
+one_more m now after n e at exit is =
+    runs_split m n 1
+    ∙ ap (λ (t : Run). joined (run_of m n) t)
+    (ap (λ (x : machine.State). run_of x 1) (sym at) ∙ one_step now after e exit is)
+
+marks_more :
+    (l : Latencies) (s : State) (es : List Event) (e : Event)
+    → marks l s (es ++ e ∷ []) ≡ marks l s es ++ mark_of l (after_events s es) e ∷ []
+unfolding marks
+marks_more l s es e = marks_split l s es (e ∷ [])
+
+events_more :
+    (s : State) (es : List Event) (e : Event)
+    → after_event (after_events s es) e ≡ after_events s (es ++ e ∷ [])
+unfolding after_events
+events_more s es e = sym (fold-append after_event s es (e ∷ []))
+
+joined_whole :
+    (l : Latencies) (first s : State) (r : Run) (e : Event) (after : machine.State) (ms : List Marked)
+    → IsWhole l first r ms → s ≡ after_events first r.events
+    → IsWhole l first (joined r (record { events = e ∷ []; after = after; halt = None })) (ms ++ mark_of l s e ∷ [])
+joined_whole l first s r e after ms w is =
+    record {
+      halt = rw w.halt refl;
+      marks_are = marks_more l first r.events e ∙ rw (w.marks_are, is) refl;
+    }
+
+-- an instruction of the run is annotated
+pub annotated_more :
+    (l : Latencies) (first s : State) (start now after : machine.State) (n : ℕ) (ms : List Marked) (e : Event)
+    → IsAnnotated l first start n ms now s → now.exit ≡ None → next now ≡ Went e after
+    → IsAnnotated l first start (n + 1) (ms ++ mark_of l s e ∷ []) after (after_event s e)
+annotated_more l first s start now after n ms e is exit next_is =
+    let more : run_of start (n + 1) ≡ joined (run_of start n) (record { events = e ∷ []; after = after; halt = None }) =
+    one_more start now after n e is.machine_is exit next_is in
+    record {
+      trace_is = from_whole l first start (n + 1) _
+          (rw more (joined_whole l first s (run_of start n) e after ms (is_whole l first start n ms is.trace_is) is.state_is));
+      machine_is = sym (ap (λ (r : Run). r.after) more);
+      state_is = ap (λ (x : State). after_event x e) is.state_is
+          ∙ events_more first (run_of start n).events e
+          ∙ ap (λ (r : Run). after_events first r.events) (sym more);
+    }

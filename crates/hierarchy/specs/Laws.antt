@@ -1,0 +1,53 @@
+-- Laws of runs, of their marks, and of the caches and the predictor that they leave.
+use Rattle.std.specs.Prelude.{◌≡◌, ℕ, ◌+◌, None, Ok, List, [], ◌∷◌, ◌++◌, drop, length}
+use Rattle.lru_plain.specs.Shape.{Shape}
+use Rattle.predictor.specs.declared.kind.PredictorKind.{PredictorKind}
+use Rattle.rv_exec.specs.Machine as machine
+use Rattle.rv_exec.specs.Machine.{Went}
+use Rattle.rv_exec.specs.Next.{next}
+use Rattle.rv_exec.specs.declared.event.Event.{Event}
+use Rattle.hierarchy.specs.declared.marked.Marked.{Marked}
+use Rattle.hierarchy.specs.declared.places.Places.{Places}
+use Rattle.hierarchy.specs.declared.state.State.{State}
+use Rattle.hierarchy.specs.declared.widths.Latencies.{Latencies}
+use Rattle.hierarchy.specs.References.{warmed}
+use Rattle.hierarchy.specs.Runs.{run_of, joined, after_events, marks, trace}
+
+-- a run can be cut at any instruction: it is a first part, and a second one from where that came to
+abbrev pub RunsSplit : Type 0
+RunsSplit =
+    (m : machine.State) (a b : ℕ)
+    → run_of m (a + b) ≡ joined (run_of m a) (run_of (run_of m a).after b)
+
+-- a run that doesn't end early has as many instructions as it was asked for
+abbrev pub RunsAreWhole : Type 0
+RunsAreWhole =
+    (m : machine.State) (n : ℕ) → (run_of m n).halt ≡ None → length (run_of m n).events ≡ n
+
+-- marks can be cut at any instruction too
+abbrev pub MarksSplit : Type 0
+MarksSplit =
+    (l : Latencies) (s : State) (es fs : List Event)
+    → marks l s (es ++ fs) ≡ marks l s es ++ marks l (after_events s es) fs
+
+-- caches and predictor that were fed one instruction after the other are those of the lists of
+-- references
+abbrev pub FeedingWarms : Type 0
+FeedingWarms =
+    (g : Places Shape) (kind : PredictorKind) (es fs : List Event)
+    → after_events (warmed g kind es) fs ≡ warmed g kind (es ++ fs)
+
+-- the trace of n instructions behind the first p of a run, with the caches and the predictor that
+-- these leave, is the whole run's trace from there on
+abbrev pub TracesSplit : Type 0
+TracesSplit =
+    (l : Latencies) (s : State) (m : machine.State) (p n : ℕ) (ms : List Marked)
+    → trace l s m (p + n) ≡ Ok ms
+    → trace l (after_events s (run_of m p).events) (run_of m p).after n ≡ Ok (drop p ms)
+
+pub record AreRuns : Type 0 where
+  pub runs_split : RunsSplit
+  pub runs_whole : RunsAreWhole
+  pub marks_split : MarksSplit
+  pub feeding : FeedingWarms
+  pub traces_split : TracesSplit

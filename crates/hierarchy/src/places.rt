@@ -1,0 +1,12 @@
+/// Something for each cache and TLB of a processor.
+#[derive(Debug, Drop, PartialEq, Eq)]
+pub struct Places<T: Drop> {
+    /// The first cache of instructions, and that of data.
+    pub l1i: T,
+    pub l1d: T,
+    /// The second cache, of both.
+    pub l2: T,
+    /// The TLB of instructions, and that of data.
+    pub itlb: T,
+    pub dtlb: T,
+}
