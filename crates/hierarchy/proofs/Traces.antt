@@ -91,7 +91,7 @@ unfolding run_of
 one_step m after e exit is = steps_went m.exit (next m) m (λ t. run_of t 0) e after exit is
 
 -- one more instruction is done
-one_more :
+pub one_more :
     (m now after : machine.State) (n : ℕ) (e : Event) → now ≡ (run_of m n).after → now.exit ≡ None
     → next now ≡ Went e after
     → run_of m (n + 1) ≡ joined (run_of m n) (record { events = e ∷ []; after = after; halt = None })
@@ -100,7 +100,7 @@ one_more m now after n e at exit is =
     ∙ ap (λ (t : Run). joined (run_of m n) t)
     (ap (λ (x : machine.State). run_of x 1) (sym at) ∙ one_step now after e exit is)
 
-marks_more :
+pub marks_more :
     (l : Latencies) (s : State) (es : List Event) (e : Event)
     → marks l s (es ++ e ∷ []) ≡ marks l s es ++ mark_of l (after_events s es) e ∷ []
 unfolding marks

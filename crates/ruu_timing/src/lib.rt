@@ -13,7 +13,7 @@ mod trace;
 
 pub use laws::issue_law;
 pub use ruu::Ruu;
-pub use scalar::scalar_time;
+pub use scalar::{scalar_latency, scalar_time};
 pub use timed::Timed;
 pub use trace::{SliceTrace, Trace};
 

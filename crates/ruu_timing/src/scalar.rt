@@ -7,11 +7,12 @@ use crate::trace::Trace;
 use hierarchy::Latencies;
 use rv_isa::Class;
 
-/// The cycles of one instruction alone.
-fn scalar_latency(latencies: &Latencies, class: Class) -> u32
+/// The cycles of an instruction of the class alone.
+pub fn scalar_latency(latencies: &Latencies, class: Class) -> u32
     requires { AreLatencies latencies.now }
     ensures value { result ≡ scalar_latency latencies.now class }
-    ensures bound { result ≤ 64 }
+    ensures least { 1 ≤ result }
+    ensures most { result ≤ 64 }
 {
     match class {
         Class::Mul => latencies.mul,

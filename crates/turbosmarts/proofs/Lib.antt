@@ -1,7 +1,10 @@
 pub mod Answerings
 pub mod Endings
 pub mod Folds
+pub mod Latest
 pub mod Measures
 pub mod PartSteps
+pub mod Summed
 pub mod Tellings
 pub mod Whiles
+pub mod Windows

@@ -3,14 +3,14 @@ use Rattle.std.proofs.Common.{◌≡◌, ◌<◌, ◌≤◌, ◌+◌, ◌-◌, �
 use Rattle.std.proofs.lemmas.Grind.{div_ceil_times}
 use Rattle.std.proofs.Math.Nat.{mul-le-mul_right, suc-mul}
 use Rattle.std.specs.Int.{div_ceil}
+use Rattle.hierarchy.specs.declared.config.Config.{Config}
 use Rattle.rv_exec.specs.declared.event.Trap.{Trap}
 use Rattle.rv_exec.specs.Machine.{State}
 use Rattle.rv_machine.specs.declared.outcome.Outcome.TheVariants.{Trapped}
-use Rattle.rv_machine.specs.Machine.{Machine, IsUnderWay}
+use Rattle.rv_machine.specs.Machine.{Machine}
 use Rattle.rv_machine.specs.Running.{outcome_of}
 use Rattle.sample_design.specs.declared.design.Design.{Design}
-use Rattle.turbosmarts.specs.declared.latency.Latencies.{Latencies}
-use Rattle.turbosmarts.specs.Parts.{cycles_from, IsMeasuring, AreMeasured, units_ended}
+use Rattle.turbosmarts.specs.Parts.{HasCome, HasShown, IsMeasuring, AreMeasured, units_ended}
 use Rattle.turbosmarts.proofs.Measures.{all_measured, past_units}
 
 pub next_unit : (unit size : ℕ) → (unit + 1) * size ≡ unit * size + size
@@ -50,16 +50,16 @@ next_place budget size unit h =
 
 -- all units that end within the length of a run that exits were measured
 pub units_at_exit :
-    (latencies : Latencies) (start : State) (design : Design) (unit used ran len next : ℕ) (cycles : List ℕ)
+    (config : Config) (start : State) (design : Design) (unit used ran len next : ℕ) (cycles : List ℕ)
     → used ≡ design.unit → 0 < design.unit → ran ≤ design.unit
-    → IsMeasuring latencies start design (units_ended design.unit unit ran) next cycles
+    → IsMeasuring config start design (units_ended design.unit unit ran) next cycles
     → unit * used + ran ≡ len
-    → AreMeasured latencies start design len cycles
-units_at_exit latencies start design unit used ran len next cycles same some within before is =
+    → AreMeasured config start design len cycles
+units_at_exit config start design unit used ran len next cycles same some within before is =
     let length_is : unit * design.unit + ran ≡ len = rw (← same) is in
     let short : unit * design.unit + ran < (units_ended design.unit unit ran + 1) * design.unit =
     past_units design.unit unit ran some within in
-    all_measured latencies start design (units_ended design.unit unit ran) next len cycles before
+    all_measured config start design (units_ended design.unit unit ran) next len cycles before
     (rw (← length_is) short)
 
 -- the outcome of a run that traps in a part
@@ -75,36 +75,36 @@ trapped_in start budget size used unit ran len trap same below is short ends =
     let len_is : len ≡ min size (budget - unit * size) = rw (← same) is in
     sym (ends budget (omega arith) ∙ ap (λ (n : ℕ). Trapped n trap) here)
 
--- the machine has come to the next unit
+-- the run has come to the next unit
 pub way_on :
-    (start now : Machine) (budget size used unit len : ℕ)
+    (shown : ℕ → Type 0) (start now : Machine) (budget size used unit len : ℕ)
     → used ≡ size → unit * size < budget → len ≡ min used (budget - unit * used)
-    → IsUnderWay start (min (unit * size) budget + len) now
-    → IsUnderWay start (min ((unit + 1) * size) budget) now
-way_on start now budget size used unit len same below is way =
+    → HasCome shown start (min (unit * size) budget + len) now
+    → HasCome shown start (min ((unit + 1) * size) budget) now
+way_on shown start now budget size used unit len same below is way =
     let len_is : len ≡ min size (budget - unit * size) = rw (← same) is in
-    let P : ℕ → Type 0 = λ n. IsUnderWay start n now in
+    let P : ℕ → Type 0 = λ n. HasCome shown start n now in
     subst P (ap (λ (n : ℕ). min (unit * size) budget + n) len_is ∙ next_place budget size unit below) way
 
 -- where the next unit ends within the budget, this one ran whole
 pub units_on :
-    (latencies : Latencies) (start : State) (design : Design) (unit used ran len next : ℕ) (cycles : List ℕ)
+    (config : Config) (start : State) (design : Design) (unit used ran len next : ℕ) (cycles : List ℕ)
     → used ≡ design.unit → len ≡ min used (design.budget - unit * used) → ran ≡ len
-    → IsMeasuring latencies start design (units_ended design.unit unit ran) next cycles
+    → IsMeasuring config start design (units_ended design.unit unit ran) next cycles
     → (unit + 1) * design.unit ≤ design.budget
-    → IsMeasuring latencies start design (unit + 1) next cycles
-units_on latencies start design unit used ran len next cycles same is all before within =
+    → IsMeasuring config start design (unit + 1) next cycles
+units_on config start design unit used ran len next cycles same is all before within =
     let len_is : len ≡ min design.unit (design.budget - unit * design.unit) = rw (← same) is in
     let longer : (unit + 1) * design.unit ≡ unit * design.unit + design.unit = next_unit unit design.unit in
     let whole : ran ≡ design.unit = omega arith in
     let ended : units_ended design.unit unit ran ≡ unit + 1 = rw (eq-eqb ran design.unit whole) refl in
-    let P : ℕ → Type 0 = λ n. IsMeasuring latencies start design n next cycles in
+    let P : ℕ → Type 0 = λ n. IsMeasuring config start design n next cycles in
     subst P ended before
 
--- the cycles of a part, from its place in the unit
-pub part_cycles :
-    (latencies : Latencies) (start : State) (budget size unit ran cycles : ℕ) → unit * size < budget
-    → cycles ≡ cycles_from latencies start (min (unit * size) budget) ran
-    → cycles ≡ cycles_from latencies start (unit * size) ran
-part_cycles latencies start budget size unit ran cycles below is =
-    is ∙ ap (λ (n : ℕ). cycles_from latencies start n ran) (place_is budget size unit below)
+-- what was shown of a part, from the unit's first instruction on
+pub part_shown :
+    (shown : ℕ → Type 0) (start : State) (budget size unit ran : ℕ) → unit * size < budget
+    → HasShown shown start (min (unit * size) budget + ran) → HasShown shown start (unit * size + ran)
+part_shown shown start budget size unit ran below part =
+    let P : ℕ → Type 0 = λ n. HasShown shown start (n + ran) in
+    subst P (place_is budget size unit below) part

@@ -1,10 +1,10 @@
 ghost use Rattle.std.specs.Prelude.{◌≡◌, ◌≤◌, ◌<◌, ◌+◌, ℕ, None, [], IfOk, length};
 ghost use Rattle.hierarchy.specs.Config.{IsConfig};
 ghost use Rattle.rv_machine.specs.declared.outcome.Outcome.TheVariants.{Exited};
-ghost use Rattle.rv_machine.specs.Machine.{Machine, IsUnderWay};
+ghost use Rattle.rv_machine.specs.Machine.{Machine};
 ghost use Rattle.rv_machine.specs.Running.{outcome_of};
 ghost use Rattle.sample_design.specs.Design.{IsUsable};
-ghost use Rattle.turbosmarts.specs.Parts.{AreMeasured, IsPart};
+ghost use Rattle.turbosmarts.specs.Parts.{AreMeasured, HasCome, IsPart};
 ghost use Rattle.turbosmarts.specs.Shown.{events_to};
 
 use crate::meter::Meter;
@@ -96,8 +96,8 @@ fn run_part<P: Processor>(whole: &mut Whole, len: u32, processor: &mut P) -> Res
     requires config { IsConfig (P.config processor.old) }
     ensures config { P.config processor.new ≡ P.config processor.old }
     ensures longest { P.longest processor.new ≡ P.longest processor.old }
-    ensures part { (start : Machine) (at begun : ℕ) → IsUnderWay start at whole.old
-        → P.shown processor.old begun (events_to start.state at)
+    ensures part { (start : Machine) (at begun : ℕ)
+        → HasCome (λ n. P.shown processor.old begun (events_to start.state n)) start at whole.old
         → IfOk result (IsPart (λ n. P.shown processor.new begun (events_to start.state n)) start at len whole.new) }
 {
     for done in 0..len {

@@ -1,48 +1,44 @@
-use Rattle.std.proofs.Common.{◌≤◌, sym, ap, ◌∙◌, arith}
+use Rattle.std.proofs.Common.{sym, ap, ◌∙◌, refl, subst, List}
+use Rattle.rv_exec.specs.declared.event.Event.{Event}
 use Rattle.rv_exec.specs.Machine.{State}
-use Rattle.turbosmarts.specs.Units.{latency_of}
-use Rattle.turbosmarts.proofs.PartSteps.{part_begins, part_goes_on, part_exits, part_traps, latency_least, latency_most}
+use Rattle.turbosmarts.proofs.PartSteps.{part_begins, part_goes_on, part_exits, part_traps, part_full, events_more}
 use Rattle.turbosmarts.proofs.measuring.run_part.Goals as goal
 
 pub loop-done-init : goal.loop-done-init
-loop-done-init c = record {
+loop-done-init g c = record {
   running = c.requires.running;
-  least = omega arith;
-  most = omega arith;
-  way = λ start at way. part_begins _ _ _ _ way;
+  config = refl;
+  longest = refl;
+  way = λ start at begun way. part_begins _ _ _ _ _ refl way;
 }
 
-pub returns-in-Err-Trap : goal.returns-in-Err-Trap
-returns-in-Err-Trap c =
-    let before = c.loop-done.invariant in
+pub returns-in-Err-Trap-clause-part : goal.returns-in-Err-Trap-clause-part
+returns-in-Err-Trap-clause-part g c = λ start at begun way.
     let step = rw c.in-Err-Trap.field-0-is at c.in-Err-Trap.ensures.advances in
-    record {
-      part = λ start at way.
-          part_traps _ _ _ _ _ _ _ _ _ (before.way start at way) step c.loop-done-test.true before.least before.most;
-    }
+    part_traps _ _ _ _ _ _ _ _ (c.loop-done.invariant.way start at begun way) step c.loop-done-test.true
 
-pub returns-in-Some : goal.returns-in-Some
-returns-in-Some c =
-    let before = c.loop-done.invariant in
+pub returns-in-Some-clause-part : goal.returns-in-Some-clause-part
+returns-in-Some-clause-part g c = λ start at begun way.
+    let before = c.loop-done.invariant.way start at begun way in
     let exit = sym (ap (λ (s : State). s.exit) c.core.ensures) ∙ c.in-Some.is in
-    record {
-      part = λ start at way.
-          rw c.latency_of-cycles.ensures
-          (part_exits _ _ _ _ _ _ _ _ _ _ (before.way start at way) c.in-Ok.ensures.advances exit
-          c.loop-done-test.true before.least before.most c.requires.latencies);
-    }
+    let more = events_more _ _ _ _ _ _ before c.in-Ok.ensures.advances in
+    let sees = c.see.ensures.shown begun _ before.shown.shown in
+    part_exits _ _ _ _ _ _ _ _ _ _ before c.in-Ok.ensures.advances exit c.loop-done-test.true (rw more sees)
 
 pub loop-done-preserved : goal.loop-done-preserved
-loop-done-preserved c =
-    let before = c.loop-done.invariant in
+loop-done-preserved g c =
     let running = sym (ap (λ (s : State). s.exit) c.core.ensures) ∙ c.in_default.is in
-    let least : 1 ≤ latency_of c.args.latencies.now c.in-Ok.event.class = latency_least _ _ c.requires.latencies in
-    let most : latency_of c.args.latencies.now c.in-Ok.event.class ≤ 64 = latency_most _ _ c.requires.latencies in
     record {
       running = running;
-      least = omega (arith, c.latency_of-cycles.ensures);
-      most = omega (arith, c.latency_of-cycles.ensures);
-      way = λ start at way.
-          rw c.latency_of-cycles.ensures
-          (part_goes_on _ _ _ _ _ _ _ _ (before.way start at way) c.in-Ok.ensures.advances running);
+      config = c.see.ensures.config ∙ c.loop-done.invariant.config;
+      longest = c.see.ensures.longest ∙ c.loop-done.invariant.longest;
+      way = λ start at begun way.
+          let before = c.loop-done.invariant.way start at begun way in
+          let more = events_more _ _ _ _ _ _ before c.in-Ok.ensures.advances in
+          let sees = c.see.ensures.shown begun _ before.shown.shown in
+          part_goes_on _ _ _ _ _ _ _ _ before c.in-Ok.ensures.advances running (rw more sees);
     }
+
+pub returns-clause-part : goal.returns-clause-part
+returns-clause-part g c = λ start at begun way.
+    part_full _ _ _ _ _ _ (c.loop-done.invariant.way start at begun way) _

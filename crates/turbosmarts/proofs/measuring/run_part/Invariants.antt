@@ -1,13 +1,15 @@
-use Rattle.std.proofs.Common.{◌≡◌, ◌≤◌, ◌*◌, ℕ, None}
-use Rattle.rv_machine.specs.Machine.{Machine, IsUnderWay}
-use Rattle.turbosmarts.proofs.PartSteps.{PartWay}
+use Rattle.std.proofs.Common.{◌≡◌, ◌+◌, ℕ, None}
+use Rattle.rv_machine.specs.Machine.{Machine}
+use Rattle.turbosmarts.specs.Parts.{HasCome}
+use Rattle.turbosmarts.specs.Shown.{events_to}
 use Rattle.turbosmarts.proofs.measuring.run_part.Given as goal
 
 abbrev pub invariant-loop-done : goal.invariant-loop-done
-invariant-loop-done l = record {
+invariant-loop-done g l = record {
   running : l.whole.state.exit ≡ None;
-  least : l.done ≤ l.cycles;
-  most : l.cycles ≤ 64 * l.done;
-  way : (start : Machine) (at : ℕ) → IsUnderWay start at l.fn.whole
-      → PartWay l.latencies start at l.done l.cycles l.whole;
+  config : g.P.Processor.config l.processor ≡ g.P.Processor.config l.fn.processor;
+  longest : g.P.Processor.longest l.processor ≡ g.P.Processor.longest l.fn.processor;
+  way : (start : Machine) (at begun : ℕ)
+      → HasCome (λ n. g.P.Processor.shown l.fn.processor begun (events_to start.state n)) start at l.fn.whole
+      → HasCome (λ n. g.P.Processor.shown l.processor begun (events_to start.state n)) start (at + l.done) l.whole;
 }
