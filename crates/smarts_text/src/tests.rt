@@ -1,7 +1,10 @@
 use super::*;
 use confidence::{Sums, Test};
 use elf_image::ImageFault;
+use hierarchy::{Config, Latencies, Places, Widths};
+use lru_plain::Geometry;
 use ordered_fold::Ending;
+use predictor::{PredictorKind, Scheme};
 use rv_exec::{Trap, TrapKind};
 use sample_design::Design;
 use smarts_base::{NoMemory, Refusal};
@@ -82,13 +85,198 @@ fn names_the_first_fault(rt: HostRuntime) -> Result<(), Fail> {
             4,
         ),
         ("sample offset=1 every=1 unit=x", WordKind::BadValue, 3),
-        ("sample", WordKind::NotBuilt, 1),
-        ("sample unit=16", WordKind::NotBuilt, 2),
-        ("sample machine=ruu unit=16", WordKind::NotBuilt, 3),
+        ("sample ruu=8", WordKind::LsqOverRuu, 2),
+        ("sample machine=scalar lsq=33", WordKind::LsqOverRuu, 3),
+        (
+            "sample offset=1 every=1 lsq=128 ruu=127",
+            WordKind::LsqOverRuu,
+            5,
+        ),
+        ("sample l1i=64:64", WordKind::BadValue, 1),
+        ("sample l1i=64:64:4:1", WordKind::BadValue, 1),
+        ("sample l1i=3:x:4", WordKind::BadValue, 1),
+        ("sample l1d=", WordKind::BadValue, 1),
+        ("sample l1d=::", WordKind::BadValue, 1),
+        ("sample l1i=8:64:4", WordKind::OutOfRange, 1),
+        ("sample l1i=4096:64:4", WordKind::OutOfRange, 1),
+        ("sample l1d=48:64:4", WordKind::OutOfRange, 1),
+        ("sample l1d=64:0:4", WordKind::OutOfRange, 1),
+        ("sample l2=64:3:4", WordKind::OutOfRange, 1),
+        ("sample l2=64:8192:4", WordKind::OutOfRange, 1),
+        ("sample l2=64:64:0", WordKind::OutOfRange, 1),
+        ("sample l2=64:64:17", WordKind::OutOfRange, 1),
+        ("sample l2=64:64:260", WordKind::OutOfRange, 1),
+        ("sample itlb=4096:8:4", WordKind::BadValue, 1),
+        ("sample itlb=6:4", WordKind::OutOfRange, 1),
+        ("sample dtlb=8:17", WordKind::OutOfRange, 1),
+        ("sample predictor=tage:4:4:4", WordKind::BadValue, 1),
+        ("sample predictor=gshare", WordKind::BadValue, 1),
+        ("sample predictor=gshare:12:9", WordKind::BadValue, 1),
+        (
+            "sample predictor=gshare:12:9:8,bimodal:4:2:0",
+            WordKind::BadValue,
+            1,
+        ),
+        ("sample predictor=gshare:3:9:8", WordKind::OutOfRange, 1),
+        ("sample predictor=gshare:15:9:8", WordKind::OutOfRange, 1),
+        ("sample predictor=bimodal:4:1:0", WordKind::OutOfRange, 1),
+        ("sample predictor=bimodal:4:11:0", WordKind::OutOfRange, 1),
+        ("sample predictor=bimodal:4:2:17", WordKind::OutOfRange, 1),
+        ("sample fetch=9", WordKind::OutOfRange, 1),
+        ("sample ruu=257", WordKind::OutOfRange, 1),
+        ("sample lsq=1", WordKind::OutOfRange, 1),
+        ("sample tlblat=201", WordKind::OutOfRange, 1),
+        ("sample workers=1", WordKind::UnknownKey, 1),
+        ("run ruu=32", WordKind::UnknownKey, 1),
     ] {
         expect(&rt, line, Err((kind, place)))?;
     }
     Ok(())
+}
+
+fn sample(design: Design, config: Config, test: Test) -> Command {
+    Command::Sample {
+        design,
+        config,
+        test,
+    }
+}
+
+/// The geometry of a test, which there is.
+fn shape(line_log: u8, sets_log: u8, ways: u8) -> Result<Geometry, Fail> {
+    match Geometry::new(line_log, sets_log, ways) {
+        Some(geometry) => Ok(geometry),
+        None => Err(Fail::new("there is no such geometry")),
+    }
+}
+
+fn usual_config() -> Result<Config, Fail> {
+    Ok(Config {
+        ruu: true,
+        places: Places {
+            l1i: shape(6, 6, 4)?,
+            l1d: shape(6, 6, 4)?,
+            l2: shape(6, 9, 8)?,
+            itlb: shape(12, 3, 4)?,
+            dtlb: shape(12, 4, 4)?,
+        },
+        kind: PredictorKind {
+            scheme: Scheme::Gshare,
+            bits: 12,
+            target_log: 9,
+            depth: 8,
+        },
+        widths: Widths {
+            fetch: 4,
+            dispatch: 4,
+            issue: 4,
+            retire: 4,
+            queue: 8,
+            ruu: 32,
+            lsq: 16,
+            penalty: 6,
+            alus: 4,
+            muls: 1,
+            divs: 1,
+            loads: 2,
+            stores: 1,
+            branches: 1,
+        },
+        latencies: Latencies {
+            mul: 3,
+            div: 20,
+            l1: 2,
+            l2: 10,
+            mem: 100,
+            tlb: 30,
+        },
+    })
+}
+
+fn least_config() -> Result<Config, Fail> {
+    Ok(Config {
+        ruu: false,
+        places: Places {
+            l1i: shape(4, 0, 1)?,
+            l1d: shape(5, 1, 1)?,
+            l2: shape(6, 2, 1)?,
+            itlb: shape(12, 3, 1)?,
+            dtlb: shape(12, 4, 1)?,
+        },
+        kind: PredictorKind {
+            scheme: Scheme::Bimodal,
+            bits: 4,
+            target_log: 2,
+            depth: 0,
+        },
+        widths: Widths {
+            fetch: 1,
+            dispatch: 1,
+            issue: 1,
+            retire: 1,
+            queue: 1,
+            ruu: 4,
+            lsq: 2,
+            penalty: 1,
+            alus: 1,
+            muls: 1,
+            divs: 1,
+            loads: 1,
+            stores: 1,
+            branches: 1,
+        },
+        latencies: Latencies {
+            mul: 1,
+            div: 1,
+            l1: 1,
+            l2: 1,
+            mem: 1,
+            tlb: 0,
+        },
+    })
+}
+
+fn most_config() -> Result<Config, Fail> {
+    Ok(Config {
+        ruu: true,
+        places: Places {
+            l1i: shape(4, 8, 12)?,
+            l1d: shape(7, 9, 13)?,
+            l2: shape(8, 10, 14)?,
+            itlb: shape(12, 11, 15)?,
+            dtlb: shape(12, 12, 16)?,
+        },
+        kind: PredictorKind {
+            scheme: Scheme::Gshare,
+            bits: 14,
+            target_log: 10,
+            depth: 16,
+        },
+        widths: Widths {
+            fetch: 5,
+            dispatch: 6,
+            issue: 7,
+            retire: 8,
+            queue: 32,
+            ruu: 256,
+            lsq: 128,
+            penalty: 64,
+            alus: 2,
+            muls: 3,
+            divs: 4,
+            loads: 5,
+            stores: 6,
+            branches: 7,
+        },
+        latencies: Latencies {
+            mul: 16,
+            div: 64,
+            l1: 16,
+            l2: 100,
+            mem: 1000,
+            tlb: 200,
+        },
+    })
 }
 
 #[test]
@@ -122,49 +310,35 @@ fn reads_commands(rt: HostRuntime) -> Result<(), Fail> {
         seed: 1_000_000_000_000_000_000,
         budget: 1 << 36,
     };
-    let usual = Command::Sample {
-        design,
-        ruu: false,
-        mul: 3,
-        div: 20,
-        l1: 2,
-        test,
-    };
     for (line, command) in [
-        ("sample machine=scalar", usual),
+        ("sample", sample(design, usual_config()?, test)),
         (
-            "sample unit=0000000000000001000 machine=scalar offset=0",
-            usual,
+            "sample unit=0000000000000001000 machine=ruu offset=0 predictor=gshare:0012:9:8",
+            sample(design, usual_config()?, test),
         ),
         (
-            "sample unit=16 warm=0 every=1 offset=0 seed=0 budget=1 min=2 z=1 error=1 machine=scalar mullat=1 divlat=1 l1lat=1",
-            Command::Sample {
-                design: least,
-                ruu: false,
-                mul: 1,
-                div: 1,
-                l1: 1,
-                test: Test {
+            "sample unit=16 warm=0 every=1 offset=0 seed=0 budget=1 min=2 z=1 error=1 machine=scalar l1i=16:1:1 l1d=32:2:1 l2=64:4:1 itlb=8:1 dtlb=16:1 predictor=bimodal:4:2:0 fetch=1 dispatch=1 issue=1 retire=1 queue=1 ruu=4 lsq=2 penalty=1 alus=1 muls=1 divs=1 loads=1 stores=1 branches=1 mullat=1 divlat=1 l1lat=1 l2lat=1 memlat=1 tlblat=0",
+            sample(
+                least,
+                least_config()?,
+                Test {
                     min: 2,
                     z: 1,
                     error: 1,
                 },
-            },
+            ),
         ),
         (
-            "sample l1lat=16 divlat=64 mullat=16 machine=scalar error=5000 z=4000 min=65536 budget=68719476736 seed=1000000000000000000 offset=999999 every=1000000 warm=100000 unit=10000",
-            Command::Sample {
-                design: most,
-                ruu: false,
-                mul: 16,
-                div: 64,
-                l1: 16,
-                test: Test {
+            "sample tlblat=200 memlat=1000 l2lat=100 l1lat=16 divlat=64 mullat=16 branches=7 stores=6 loads=5 divs=4 muls=3 alus=2 penalty=64 lsq=128 ruu=256 queue=32 retire=8 issue=7 dispatch=6 fetch=5 predictor=gshare:14:10:16 dtlb=4096:16 itlb=2048:15 l2=256:1024:14 l1d=128:512:13 l1i=16:256:12 machine=ruu error=5000 z=4000 min=65536 budget=68719476736 seed=1000000000000000000 offset=999999 every=1000000 warm=100000 unit=10000",
+            sample(
+                most,
+                most_config()?,
+                Test {
                     min: 65_536,
                     z: 4000,
                     error: 5000,
                 },
-            },
+            ),
         ),
         (
             "run",
@@ -187,9 +361,9 @@ fn writes_one_line_a_status(rt: HostRuntime) {
         (Status::Done, 0, ""),
         (words(WordKind::NoCommand, 0), 1, "words: fault 1 at 0\n"),
         (
-            words(WordKind::NotBuilt, u32::MAX),
+            words(WordKind::OffsetNotBelowEvery, u32::MAX),
             1,
-            "words: fault 10 at 4294967295\n",
+            "words: fault 9 at 4294967295\n",
         ),
         (Status::BadImage(ImageFault::NotElf), 2, "image: fault 1\n"),
         (

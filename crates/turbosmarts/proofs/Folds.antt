@@ -5,6 +5,7 @@ use Rattle.std.proofs.lemmas.List.{take_more, take_all, take-append-drop, get_or
 use Rattle.confidence.specs.declared.answer.Answer.{Answer}
 use Rattle.confidence.specs.declared.answer.Answer.TheVariants.{Cycles}
 use Rattle.confidence.specs.declared.verdict.Test.{Test}
+use Rattle.hierarchy.specs.declared.config.Config.{Config}
 use Rattle.ordered_fold.specs.declared.ending.Ending.{Ending}
 use Rattle.ordered_fold.specs.declared.ending.Ending.TheVariants.{Going, Stopped, Faulted, Exhausted}
 use Rattle.ordered_fold.specs.declared.front.Front.{Front}

@@ -1,10 +1,14 @@
 -- The latest marks of a run.
-use Rattle.std.proofs.Common.{◌≡◌, ◌<◌, ◌≤◌, ◌+◌, ◌-◌, ◌++◌, min, ℕ, List, [], ◌∷◌, Bool, true, length, drop, refl, sym, ap, ◌∙◌, arith, inl, inr}
-use Rattle.std.specs.Prelude.{All}
-use Rattle.std.proofs.lemmas.Bool.{cases_lt}
+use Rattle.std.proofs.Common.{◌≡◌, ◌<◌, ◌≤◌, ◌+◌, ◌-◌, ◌++◌, ℕ, List, [], ◌∷◌, Bool, true, Option, Some, None, length, drop, refl, sym, ap, ◌∙◌, arith}
+use Rattle.std.specs.Prelude.{All, nat_lt, if◌then◌else◌, slice_get, option_copied}
+use Rattle.std.specs.Option.{IsSome}
+use denote.Ref.{Bor}
+use Rattle.std.proofs.lemmas.Bool.{lt-ltb}
 use Rattle.std.proofs.lemmas.List.{drop-drop, drop-append-le, length-drop, length-append}
+use Rattle.std.proofs.Math.Seq.{drop-nil}
 use Rattle.std.proofs.lemmas.List.Elements.{All-append, All-cons, All-drop, All-nil}
 use Rattle.circular_buffer.specs.Buffer.{keep_last}
+use Rattle.circular_buffer.proofs.Places.{slice_get-drop, slice_get-some}
 use Rattle.hierarchy.specs.declared.config.Config.{Config}
 use Rattle.hierarchy.specs.declared.marked.Marked.{Marked}
 use Rattle.hierarchy.specs.declared.state.State.{State}
@@ -50,18 +54,22 @@ next_mark config es e =
     ∙ ap (λ (s : State). marks config.latencies (warmed config.places config.kind []) es ++ mark_of config.latencies s e ∷ [])
     (feeding config.places config.kind [] es)
 
+-- no instruction has no mark
+none_marked : (config : Config) → marks_of config [] ≡ []
+unfolding marks_of marks
+none_marked config = refl
+
 pub marked_none :
     (config : Config) (widths : Widths) (state : State) (room : ℕ)
     → config.ruu ≡ true → widths ≡ config.widths → room ≤ 110000
     → state ≡ warmed config.places config.kind []
     → HasMarked config widths state room [] []
-unfolding marks_of marks
 marked_none config widths state room kind same fits is = record {
   kind = kind;
   widths = same;
   room = fits;
   state = is;
-  latest = refl;
+  latest = sym (ap (keep_last room) (none_marked config) ∙ drop-nil (0 - room));
   marks = All-nil IsMarked;
 }
 
@@ -150,3 +158,30 @@ marked_told config widths state room begun c latest es window marked end timeabl
     ∙ ap (λ (w : Widths). cycles w (drop (length latest - window.len) latest) window.skip) marked.widths
     ∙ ap (λ (ms : List Marked). cycles config.widths ms window.skip) has.items
     ∙ by_unit config.ruu config (drop window.start (marks_of config es)) window.skip marked.kind
+
+-- an item of the end of a list, counted from the back
+abbrev pub from_back : {X : Type 0} → List X → ℕ → Option X
+from_back items behind =
+    if nat_lt behind (length items) then slice_get items (length items - behind - 1) else None
+
+pub found_back :
+    {X : Type 0} (items : List X) (from i : ℕ) → i < length (drop from items)
+    → from_back items (length items - from - i - 1) ≡ slice_get (drop from items) i
+found_back items from i within =
+    let many : length (drop from items) ≡ length items - from = length-drop from items in
+    let behind : ℕ = length items - from - i - 1 in
+    let below : behind < length items = omega (arith, many, within) in
+    let place : length items - behind - 1 ≡ from + i = omega (arith, many, within) in
+    rw (lt-ltb behind (length items) below) (sym (slice_get-drop from items i _ place))
+
+some_copied : {X : Type 0} (found : Option (Bor X)) (x : X) → option_copied found ≡ Some x → IsSome found
+some_copied None x is = cc
+some_copied (Some r) x is = refl
+
+-- it is there
+pub is_found :
+    {X : Type 0} (items : List X) (from i : ℕ) (found : Option (Bor X)) → i < length (drop from items)
+    → option_copied found ≡ from_back items (length items - from - i - 1) → IsSome found
+is_found items from i found within is =
+    let some = slice_get-some (drop from items) i within in
+    some_copied found some.0 (is ∙ found_back items from i within ∙ some.1)

@@ -1,13 +1,14 @@
 -- A part of a run, instruction by instruction.
-use Rattle.std.proofs.Common.{◌≡◌, ◌<◌, ◌≤◌, ◌+◌, ◌++◌, ◌∷◌, [], ℕ, List, Some, None, Ok, Err, add-zero, refl, sym, ap, ◌∙◌, subst, arith}
+use Rattle.std.proofs.Common.{◌≡◌, ◌<◌, ◌≤◌, ◌+◌, ◌++◌, ◌∷◌, [], ℕ, List, length, Some, None, Ok, Err, add-zero, refl, sym, ap, ◌∙◌, subst, arith}
 use Rattle.hierarchy.specs.Runs.{Run, run_of, joined}
+use Rattle.hierarchy.proofs.RunParts.{runs_whole}
 use Rattle.hierarchy.proofs.Traces.{one_more}
 use Rattle.rv_exec.specs.declared.event.Event.{Event}
 use Rattle.rv_exec.specs.declared.event.Trap.{Trap}
 use Rattle.rv_machine.specs.declared.outcome.MachineFault.TheVariants as faults
 use Rattle.rv_machine.specs.declared.outcome.Outcome.TheVariants.{Exited}
 use Rattle.rv_machine.specs.Machine.{Machine, Advances, IsUnderWay}
-use Rattle.rv_machine.proofs.Runs.{goes_on, exits, traps}
+use Rattle.rv_machine.proofs.Runs.{at_start, goes_on, exits, traps}
 use Rattle.turbosmarts.specs.declared.measuring.PartEnd.TheVariants as ends
 use Rattle.turbosmarts.specs.Parts.{HasCome, HasShown, IsPart}
 use Rattle.turbosmarts.specs.Shown.{events_to}
@@ -96,3 +97,32 @@ part_full shown start now at done len before all = record {
   shown = rw (← all) before.shown;
   ends = (refl, rw (← all) before);
 }
+
+-- a run begins
+pub come_first :
+    (shown : ℕ → List Event → Type 0) (start : Machine)
+    → start.state.exit ≡ None → shown 0 [] → HasCome (λ n. shown 0 (events_to start.state n)) start 0 start
+unfolding run_of
+come_first shown start running sees = record {
+  way = at_start start running;
+  after = refl;
+  shown = record { done = refl; shown = sees };
+}
+
+-- and so does a unit
+pub unit_begins :
+    (shown now_shown : ℕ → List Event → Type 0) (start now : Machine) (begun place : ℕ)
+    → HasCome (λ n. shown begun (events_to start.state n)) start place now
+    → ((b : ℕ) (es : List Event) → shown b es → now_shown (length es) es)
+    → HasCome (λ n. now_shown place (events_to start.state n)) start place now
+unit_begins shown now_shown start now begun place before begins =
+    let P : ℕ → Type 0 = λ n. now_shown n (events_to start.state place) in
+    record {
+      way = before.way;
+      after = before.after;
+      shown = record {
+        done = before.shown.done;
+        shown = subst P (runs_whole start.state place before.shown.done)
+            (begins begun (events_to start.state place) before.shown.shown);
+      };
+    }

@@ -1,8 +1,8 @@
 -- The latencies of the instructions since a unit began.
-use Rattle.std.proofs.Common.{◌≡◌, ◌<◌, ◌≤◌, ◌+◌, ◌-◌, ◌*◌, ◌%◌, ◌^◌, ◌++◌, ℕ, zero, suc, List, [], ◌∷◌, Bool, false, length, drop, sum_by, refl, sym, ap, ◌∙◌, subst, arith, add-zero}
+use Rattle.std.proofs.Common.{◌≡◌, ◌<◌, ◌≤◌, ◌+◌, ◌-◌, ◌*◌, ◌%◌, ◌^◌, ◌++◌, ℕ, zero, suc, List, [], ◌∷◌, Bool, false, length, drop, sum_by, refl, sym, ap, ◌∙◌, subst, arith, zero-add}
 use Rattle.std.proofs.Math.Nat.{mod-eq_of_lt, mod-add-mod}
 use Rattle.std.proofs.lemmas.List.{drop-drop, drop-append-le, length-append}
-use Rattle.std.proofs.lemmas.List.Sums.{sum_by-append}
+use Rattle.std.proofs.lemmas.List.Sums.{sum_by-append, sum_by-cons}
 use Rattle.std.proofs.Math.Seq.{drop-length}
 use Rattle.confidence.specs.Sums.{IsCycles}
 use Rattle.hierarchy.specs.declared.config.Config.{Config}
@@ -30,7 +30,9 @@ unfolding marks mark_of
 classes_kept l s [] zero = refl
 classes_kept l s [] (suc k) = refl
 classes_kept l s (e ∷ es) zero =
-    ap (λ (n : ℕ). scalar_latency l e.class + n) (classes_kept l (after_event s e) es zero)
+    sum_by-cons (λ m. scalar_latency l m.class) (mark_of l s e) (marks l (after_event s e) es)
+    ∙ ap (λ (n : ℕ). scalar_latency l e.class + n) (classes_kept l (after_event s e) es zero)
+    ∙ sym (sum_by-cons (λ e. scalar_latency l e.class) e es)
 classes_kept l s (e ∷ es) (suc k) = classes_kept l (after_event s e) es k
 
 pub summed_none : (config : Config) → config.ruu ≡ false → HasSummed config 0 0 []
@@ -60,11 +62,11 @@ summed_more config sum begun now es e before is =
     let longer : sum_by (λ e. scalar_latency config.latencies e.class) (drop begun (es ++ e ∷ [])) ≡ all + l =
     ap (sum_by (λ e. scalar_latency config.latencies e.class)) (drop-append-le begun es (e ∷ []) before.begins)
     ∙ sum_by-append (λ e. scalar_latency config.latencies e.class) (drop begun es) (e ∷ [])
-    ∙ ap (λ (n : ℕ). all + n) (add-zero l) in
+    ∙ ap (λ (n : ℕ). all + n) (zero-add l) in
     record {
       kind = before.kind;
       begins = omega (arith, before.begins, length-append es (e ∷ []));
-      sum = is ∙ ap (λ (n : ℕ). (n + l) % 2 ^ 32) before.sum ∙ mod-add-mod all l (2 ^ 32)
+      sum = is ∙ ap (λ (n : ℕ). (n + l) % 2 ^ 32) before.sum ∙ mod-add-mod all (2 ^ 32) l
           ∙ ap (λ (n : ℕ). n % 2 ^ 32) (sym longer);
     }
 

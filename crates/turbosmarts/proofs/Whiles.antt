@@ -4,13 +4,15 @@ use Rattle.std.proofs.lemmas.Grind.{div_ceil_times}
 use Rattle.std.proofs.Math.Nat.{mul-le-mul_right, suc-mul}
 use Rattle.std.specs.Int.{div_ceil}
 use Rattle.hierarchy.specs.declared.config.Config.{Config}
+use Rattle.rv_exec.specs.declared.event.Event.{Event}
 use Rattle.rv_exec.specs.declared.event.Trap.{Trap}
 use Rattle.rv_exec.specs.Machine.{State}
-use Rattle.rv_machine.specs.declared.outcome.Outcome.TheVariants.{Trapped}
+use Rattle.rv_machine.specs.declared.outcome.Outcome.TheVariants.{Exited, Trapped}
 use Rattle.rv_machine.specs.Machine.{Machine}
 use Rattle.rv_machine.specs.Running.{outcome_of}
 use Rattle.sample_design.specs.declared.design.Design.{Design}
 use Rattle.turbosmarts.specs.Parts.{HasCome, HasShown, IsMeasuring, AreMeasured, units_ended}
+use Rattle.turbosmarts.specs.Shown.{events_to}
 use Rattle.turbosmarts.proofs.Measures.{all_measured, past_units}
 
 pub next_unit : (unit size : ℕ) → (unit + 1) * size ≡ unit * size + size
@@ -75,6 +77,19 @@ trapped_in start budget size used unit ran len trap same below is short ends =
     let len_is : len ≡ min size (budget - unit * size) = rw (← same) is in
     sym (ends budget (omega arith) ∙ ap (λ (n : ℕ). Trapped n trap) here)
 
+-- the outcome of a run that exits in a part
+pub exited_in :
+    (start : Machine) (budget size used unit ran len code : ℕ)
+    → used ≡ size → unit * size < budget → len ≡ min used (budget - unit * used) → ran ≤ len
+    → ((b : ℕ) → min (unit * size) budget + ran ≤ b
+    → outcome_of start.state b ≡ Exited code (min (unit * size) budget + ran))
+    → Exited code (unit * used + ran) ≡ outcome_of start.state budget
+exited_in start budget size used unit ran len code same below is short ends =
+    let place : min (unit * size) budget ≡ unit * size = place_is budget size unit below in
+    let here : min (unit * size) budget + ran ≡ unit * used + ran = rw (same, place) refl in
+    let len_is : len ≡ min size (budget - unit * size) = rw (← same) is in
+    sym (ends budget (omega arith) ∙ ap (λ (n : ℕ). Exited code n) here)
+
 -- the run has come to the next unit
 pub way_on :
     (shown : ℕ → Type 0) (start now : Machine) (budget size used unit len : ℕ)
@@ -103,8 +118,21 @@ units_on config start design unit used ran len next cycles same is all before wi
 
 -- what was shown of a part, from the unit's first instruction on
 pub part_shown :
-    (shown : ℕ → Type 0) (start : State) (budget size unit ran : ℕ) → unit * size < budget
-    → HasShown shown start (min (unit * size) budget + ran) → HasShown shown start (unit * size + ran)
+    (shown : ℕ → List Event → Type 0) (start : State) (budget size unit ran : ℕ) → unit * size < budget
+    → HasShown (λ n. shown (min (unit * size) budget) (events_to start n)) start (min (unit * size) budget + ran)
+    → HasShown (λ n. shown (unit * size) (events_to start n)) start (unit * size + ran)
 part_shown shown start budget size unit ran below part =
-    let P : ℕ → Type 0 = λ n. HasShown shown start (n + ran) in
+    let P : ℕ → Type 0 = λ m. HasShown (λ n. shown m (events_to start n)) start (m + ran) in
     subst P (place_is budget size unit below) part
+
+-- the processor kept what it was shown
+pub come_kept :
+    (shown now_shown : ℕ → List Event → Type 0) (start now : Machine) (begun place : ℕ)
+    → HasCome (λ n. shown begun (events_to start.state n)) start place now
+    → ((b : ℕ) (es : List Event) → shown b es → now_shown b es)
+    → HasCome (λ n. now_shown begun (events_to start.state n)) start place now
+come_kept shown now_shown start now begun place before keeps = record {
+  way = before.way;
+  after = before.after;
+  shown = record { done = before.shown.done; shown = keeps begun (events_to start.state place) before.shown.shown };
+}

@@ -16,15 +16,15 @@ use Rattle.turbosmarts.specs.declared.measuring.PartEnd.TheVariants as ends
 use Rattle.turbosmarts.specs.Units.{whole_answer}
 
 -- so many instructions of a run can be done, and were shown
-pub record HasShown (shown : ℕ → Type 0) (start : State) (n : ℕ) : Type 0 where
+pub record HasShown (seen : ℕ → Type 0) (start : State) (n : ℕ) : Type 0 where
   pub done : (run_of start n).halt ≡ None
-  pub shown : shown n
+  pub shown : seen n
 
 -- the run has come to the instruction of that number, and those before it were shown
-pub record HasCome (shown : ℕ → Type 0) (start : Machine) (at : ℕ) (now : Machine) : Type 0 where
+pub record HasCome (seen : ℕ → Type 0) (start : Machine) (at : ℕ) (now : Machine) : Type 0 where
   pub way : IsUnderWay start at now
   pub after : (run_of start.state at).after ≡ now.state
-  pub shown : HasShown shown start.state at
+  pub shown : HasShown seen start.state at
 
 -- how a part of so many instructions ended, that began at a place
 abbrev pub EndsPart : (ℕ → Type 0) → Machine → ℕ → ℕ → ℕ → Machine → PartEnd → Type 0
@@ -36,10 +36,10 @@ EndsPart shown start at len ran now (ends.Trapped trap) =
     × ((budget : ℕ) → at + ran < budget → outcome_of start.state budget ≡ Trapped (at + ran) trap)
 
 -- what came of a part of at most so many instructions, that began at a place
-pub record IsPart (shown : ℕ → Type 0) (start : Machine) (at len : ℕ) (now : Machine) (part : Part) : Type 0 where
+pub record IsPart (seen : ℕ → Type 0) (start : Machine) (at len : ℕ) (now : Machine) (part : Part) : Type 0 where
   pub ran : part.ran ≤ len
-  pub shown : HasShown shown start.state (at + part.ran)
-  pub ends : EndsPart shown start at len part.ran now part.end
+  pub shown : HasShown seen start.state (at + part.ran)
+  pub ends : EndsPart seen start at len part.ran now part.end
 
 -- Before the unit of that number, the sampled units have been measured, up to 65,536 of them; `next` is the
 -- number of the one that comes next.

@@ -17,17 +17,17 @@ latencies_since config begun events =
     sum_by (λ e. scalar_latency config.latencies e.class) (drop begun events)
 
 -- their sum, as a number of 32 bits
-pub record HasSummed (config : Config) (sum : ℕ) (begun : ℕ) (events : List Event) : Type 0 where
+pub record HasSummed (config : Config) (cycles : ℕ) (begun : ℕ) (events : List Event) : Type 0 where
   pub kind : config.ruu ≡ false
   pub begins : begun ≤ length events
-  pub sum : sum ≡ latencies_since config begun events % 2 ^ 32
+  pub sum : cycles ≡ latencies_since config begun events % 2 ^ 32
 
 -- the caches and the predictor after all of them, and the latest marks, for windows of up to 110,000
 -- instructions
-pub record HasMarked (config : Config) (widths : Widths) (state : State) (room : ℕ) (marks : List Marked) (events : List Event) : Type 0 where
+pub record HasMarked (config : Config) (built : Widths) (warm : State) (longest : ℕ) (kept : List Marked) (events : List Event) : Type 0 where
   pub kind : config.ruu ≡ true
-  pub widths : widths ≡ config.widths
-  pub room : room ≤ 110000
-  pub state : state ≡ warmed config.places config.kind events
-  pub latest : marks ≡ keep_last room (marks_of config events)
-  pub marks : All IsMarked marks
+  pub widths : built ≡ config.widths
+  pub room : longest ≤ 110000
+  pub state : warm ≡ warmed config.places config.kind events
+  pub latest : kept ≡ keep_last longest (marks_of config events)
+  pub marks : All IsMarked kept

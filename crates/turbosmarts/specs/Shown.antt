@@ -34,9 +34,9 @@ pub record IsTimeable (window : Window) (longest : ℕ) : Type 0 where
   pub fits : window.len ≤ longest
 
 -- what was shown ends with a window that can be timed
-pub record CanTell (shown : ℕ → List Event → Type 0) (longest : ℕ) (window : Window) : Type 0 where
+pub record CanTell (has_seen : ℕ → List Event → Type 0) (longest : ℕ) (window : Window) : Type 0 where
   pub begun : ℕ
   pub events : List Event
-  pub shown : shown begun events
+  pub shown : has_seen begun events
   pub end : IsAtEnd window begun events
   pub timeable : IsTimeable window longest

@@ -8,7 +8,6 @@ usage: turbosmarts COMMAND [KEY=VALUE]... < IMAGE > OUTPUT
 The image is an ELF executable for RV32IM. Keys come in any order, each once.
 
 sample   measures units of the run until their mean is known well enough; writes a report
-    machine=scalar   the machine that is timed takes one instruction after the other (no default)
     unit=N           instructions in a unit, 16 to 10000 (default 1000)
     warm=N           instructions before a unit that belong to its window, 0 to 100000 (2000)
     every=N          every N-th unit may be measured, 1 to 1000000 (100)
@@ -18,9 +17,29 @@ sample   measures units of the run until their mean is known well enough; writes
     min=N            the fewest units measured, 2 to 65536 (30)
     z=N              standard deviations to each side of the mean, in thousandths, 1 to 4000 (3000)
     error=N          the largest half width, in ten-thousandths of the mean, 1 to 5000 (300)
+  the processor that is timed:
+    machine=ruu      with a register update unit, or scalar: one instruction after the other (ruu)
+    l1i=L:S:W        first cache of instructions: bytes of a line, 16 to 256, and sets, 1 to 4096,
+                     both powers of two, and ways, 1 to 16 (64:64:4)
+    l1d=L:S:W        first cache of data (64:64:4)
+    l2=L:S:W         second cache, of both (64:512:8)
+    itlb=S:W         TLB of instructions, with pages of 4096 bytes: sets and ways (8:4)
+    dtlb=S:W         TLB of data (16:4)
+    predictor=K:B:T:D   K bimodal or gshare, 2^B counters, 4 to 14, 2^T targets, 2 to 10, and D
+                     return addresses, 0 to 16 (gshare:12:9:8)
+    fetch=N dispatch=N issue=N retire=N   instructions in a cycle, each 1 to 8 (4)
+    queue=N          places of the fetch queue, 1 to 32 (8)
+    ruu=N            places of the register update unit, 4 to 256 (32)
+    lsq=N            places of the load and store queue, 2 to 128, at most ruu (16)
+    penalty=N        cycles after a misprediction, 1 to 64 (6)
+    alus=N muls=N divs=N loads=N stores=N branches=N
+                     instructions of each class issued in a cycle, each 1 to 8 (4 1 1 2 1 1)
     mullat=N         cycles of a multiplication, 1 to 16 (3)
     divlat=N         cycles of a division, 1 to 64 (20)
     l1lat=N          cycles of a load, 1 to 16 (2)
+    l2lat=N          more where only the second cache hits, 1 to 100 (10)
+    memlat=N         more where no cache hits, 1 to 1000 (100)
+    tlblat=N         more where the TLB misses, 0 to 200 (30)
 
 run      runs the program to its end; writes what it wrote
     budget=N         the most instructions of the run, 1 to 68719476736 (1000000000)
@@ -29,7 +48,7 @@ The process ends with one of these statuses, and tells it on standard error:
   0  done
   1  words: fault N at P: word P (from 0) is refused
        1 no command   2 unknown command   3 unknown key   4 key repeated   5 not of the key's form
-       6 out of range   9 offset is not below every   10 this machine is not built yet
+       6 out of range   8 lsq is over ruu   9 offset is not below every
   2  image: fault N
        1 no ELF file   2 not for 32-bit RISC-V   3 no executable, or it needs an interpreter
        4 built for compressed instructions   5 program headers outside the file

@@ -22,6 +22,7 @@ pub struct OutOfOrder<'a> {
 }
 
 /// The marks from a place on.
+#[derive(Clone, Copy, Debug)]
 struct Rest<'a> {
     marks: &'a HeapCircularBuffer<Marked>,
     from: usize,
@@ -35,7 +36,9 @@ impl<'a> Trace for Rest<'a> {
     }
 
     fn at(&self, i: usize) -> Marked {
-        *self.marks.get(self.from + i).unwrap()
+        // Counted from the back: no difference passes what a usize holds.
+        let behind = self.marks.len() - self.from - i - 1;
+        *self.marks.nth_back(behind).unwrap()
     }
 }
 

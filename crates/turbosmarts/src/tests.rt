@@ -228,6 +228,33 @@ fn counts_latencies(rt: HostRuntime) -> Result<(), Fail> {
     Ok(())
 }
 
+// Sixteen instructions that fit in one line but the last five, on the processor with a register update
+// unit: two fetches miss everywhere, and the first one misses its page, too. Halving memory's latency, or
+// taking the miss of the page away, shows it.
+#[test]
+fn times_with_a_register_update_unit(rt: HostRuntime) -> Result<(), Fail> {
+    let alloc = rt.alloc();
+    let cases = [
+        ("", "239", "14.9375"),
+        ("tlblat=0", "209", "13.0625"),
+        ("memlat=50", "139", "8.6875"),
+        ("machine=scalar", "16", "1.0000"),
+    ];
+    for (more, cycles, cpi) in cases {
+        let line = format!(in alloc; "sample unit=16 warm=0 {more}")?;
+        let text = format!(in alloc;
+            "instructions 16\npoints 1\nsampled 1\nconfident no\ncycles {cycles}\ncpi {cpi}\nerror none\n"
+        )?;
+        let wanted = Wanted {
+            status: Status::Done,
+            output: text.as_bytes(),
+            lines: "",
+        };
+        expect(&rt, &line, file(alloc, 13, &[])?, NOTHING, wanted)?;
+    }
+    Ok(())
+}
+
 #[test]
 fn writes_the_output_of_a_run(rt: HostRuntime) -> Result<(), Fail> {
     let alloc = rt.alloc();
@@ -289,10 +316,10 @@ fn refuses_words(rt: HostRuntime) -> Result<(), Fail> {
             "words: fault 9 at 3\n",
         ),
         (
-            "sample unit=16",
-            WordKind::NotBuilt,
+            "sample ruu=8",
+            WordKind::LsqOverRuu,
             2,
-            "words: fault 10 at 2\n",
+            "words: fault 8 at 2\n",
         ),
     ];
     for (line, kind, place, text) in cases {

@@ -19,7 +19,7 @@ returns c =
     let measured = c.in_ok-measured.ensures.units _ _ c.in_ok-exit.ensures.exited in
     let few = c.in_ok-count.ensures.few in
     let started = ap (λ (m : Machine). m.state) c.in_ok-whole.ensures.started in
-    let report = c.in_ok-report.ensures c.args.latencies.now c.in_ok-whole.whole.state
+    let report = c.in_ok-report.ensures c.args.config.now c.in_ok-whole.whole.state
     (λ p h.
     rw c.deref.ensures.value
     (measured.units p (measured.all p (omega arith) (c.in_ok-count.ensures.within p h)))) in

@@ -1,5 +1,4 @@
-use Rattle.std.proofs.Common.{sym, ap, ◌∙◌, refl, subst, List}
-use Rattle.rv_exec.specs.declared.event.Event.{Event}
+use Rattle.std.proofs.Common.{sym, ap, ◌∙◌, refl, arith}
 use Rattle.rv_exec.specs.Machine.{State}
 use Rattle.turbosmarts.proofs.PartSteps.{part_begins, part_goes_on, part_exits, part_traps, part_full, events_more}
 use Rattle.turbosmarts.proofs.measuring.run_part.Goals as goal
@@ -41,4 +40,4 @@ loop-done-preserved g c =
 
 pub returns-clause-part : goal.returns-clause-part
 returns-clause-part g c = λ start at begun way.
-    part_full _ _ _ _ _ _ (c.loop-done.invariant.way start at begun way) _
+    part_full _ _ _ _ _ _ (c.loop-done.invariant.way start at begun way) (omega arith)

@@ -1,11 +1,17 @@
-use Rattle.std.proofs.Common.{◌<◌, length, arith}
+use Rattle.std.proofs.Common.{◌≡◌, ◌+◌, ◌*◌, ap, arith}
 use Rattle.turbosmarts.proofs.Measures.{measuring_kept}
+use Rattle.turbosmarts.proofs.Windows.{unit_told, at_end}
 use Rattle.turbosmarts.proofs.meter.Meter.take.Goals as goal
 
-pub returns : goal.returns
-returns c = λ latencies start before is.
+pub returns-clause-measured : goal.returns-clause-measured
+returns-clause-measured g c = λ start before shown.
+    let ran : c.args.ran ≡ c.args.design.now.unit = omega (arith, c.if-ran-design.false) in
+    let whole = ap (λ n. c.args.unit * c.args.design.now.unit + n) ran in
+    let end = at_end start c.args.design.now c.args.unit _ whole shown.done in
+    let told = c.cycles-cycles.ensures.value _ _ shown.shown (rw c.window.ensures end) in
+    let is = unit_told _ _ _ _ _ _ whole shown.done (rw c.window.ensures at told) in
+    let here : c.args.unit ≡ c.args.self.now.next = omega (arith, c.if-unit-self.false) in
     let ranges = c.requires.design.ranges in
-    let room : length c.args.self.now.cycles.items < 65536 = omega (arith, c.len.ensures, before.few) in
-    rw (c.in_ok-push.ensures.items, c.from.ensures)
-    (measuring_kept latencies start _ _ _ _ _ _ before c.if-part-design.false c.if-unit-self.false room
-    ranges.every_least ranges.every_most (c.requires.valid c.if-part-design.false) is)
+    rw (c.from.ensures, c.in_ok-push.ensures.items)
+    (measuring_kept _ _ _ _ _ _ _ _ before ran here (omega (arith, c.len.ensures, c.if-len-ge-MOST_UNITS.false))
+    ranges.every_least ranges.every_most c.cycles-cycles.ensures.range is)

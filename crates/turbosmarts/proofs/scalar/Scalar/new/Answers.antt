@@ -1,0 +1,5 @@
+use Rattle.turbosmarts.proofs.Summed.{summed_none}
+use Rattle.turbosmarts.proofs.scalar.Scalar.new.Goals as goal
+
+pub returns-clause-shown : goal.returns-clause-shown
+returns-clause-shown c = summed_none _ c.requires

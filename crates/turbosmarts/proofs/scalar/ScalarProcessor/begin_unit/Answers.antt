@@ -1,0 +1,5 @@
+use Rattle.turbosmarts.proofs.Summed.{summed_anew}
+use Rattle.turbosmarts.proofs.scalar.ScalarProcessor.begin_unit.Goals as goal
+
+pub returns-clause-shown : goal.returns-clause-shown
+returns-clause-shown c = λ begun es before. summed_anew _ _ _ _ before
