@@ -10,6 +10,11 @@ use Rattle.hierarchy.specs.declared.state.State.{State}
 use Rattle.hierarchy.specs.declared.widths.Latencies.{Latencies}
 use Rattle.hierarchy.specs.Marking.{mark_of, after_event}
 use Rattle.hierarchy.specs.Runs.{Halt, Run, halted, with_first, steps, run_of, joined, after_events, marks, unless_halted, trace, IsAnnotated}
+use Rattle.lru_plain.specs.Shape.{Shape}
+use Rattle.predictor.specs.declared.kind.PredictorKind.{PredictorKind}
+use Rattle.hierarchy.specs.declared.places.Places.{Places}
+use Rattle.hierarchy.specs.References.{warmed}
+use Rattle.hierarchy.proofs.Warms.{feeding}
 use Rattle.hierarchy.proofs.RunParts.{steps_went, runs_split, runs_whole, marks_split, length-marks}
 use Rattle.std.proofs.Math.Seq.{drop-append_seam}
 use Rattle.std.proofs.lemmas.List.Sums.{fold-append}
@@ -91,7 +96,7 @@ unfolding run_of
 one_step m after e exit is = steps_went m.exit (next m) m (λ t. run_of t 0) e after exit is
 
 -- one more instruction is done
-one_more :
+pub one_more :
     (m now after : machine.State) (n : ℕ) (e : Event) → now ≡ (run_of m n).after → now.exit ≡ None
     → next now ≡ Went e after
     → run_of m (n + 1) ≡ joined (run_of m n) (record { events = e ∷ []; after = after; halt = None })
@@ -138,3 +143,18 @@ annotated_more l first s start now after n ms e is exit next_is =
           ∙ events_more first (run_of start n).events e
           ∙ ap (λ (r : Run). after_events first r.events) (sym more);
     }
+
+-- a window of a run that began with empty caches
+pub windows :
+    (l : Latencies) (g : Places Shape) (kind : PredictorKind) (m : machine.State) (p n : ℕ) (ms : List Marked)
+    → trace l (warmed g kind []) m (p + n) ≡ Ok ms
+    → trace l (warmed g kind (run_of m p).events) (run_of m p).after n ≡ Ok (drop p ms)
+windows l g kind m p n ms h =
+    rw (feeding g kind [] (run_of m p).events) at (traces_split l (warmed g kind []) m p n ms h)
+
+pub traces_whole :
+    (l : Latencies) (s : State) (m : machine.State) (n : ℕ) (ms : List Marked)
+    → trace l s m n ≡ Ok ms → length ms ≡ n
+traces_whole l s m n ms h =
+    let w : IsWhole l s (run_of m n) ms = is_whole l s m n ms h in
+    ap length (sym w.marks_are) ∙ length-marks l s (run_of m n).events ∙ runs_whole m n w.halt
