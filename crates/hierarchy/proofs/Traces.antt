@@ -1,5 +1,5 @@
 -- Marked traces of parts of a run.
-use Rattle.std.proofs.Common.{◌≡◌, ℕ, zero, suc, ◌+◌, List, [], ◌∷◌, ◌++◌, length, drop, refl, sym, ◌∙◌, ap, arith, Option, Some, None, Result, Ok, Err}
+use Rattle.std.proofs.Common.{◌≡◌, ℕ, zero, suc, ◌+◌, List, [], ◌∷◌, ◌++◌, length, drop, take, refl, sym, ◌∙◌, ap, arith, Option, Some, None, Result, Ok, Err}
 use Rattle.smarts_base.specs.Least.{or_else}
 use Rattle.rv_exec.specs.Machine as machine
 use Rattle.rv_exec.specs.Machine.{Outcome, Went, Stopped}
@@ -17,6 +17,7 @@ use Rattle.hierarchy.specs.References.{warmed}
 use Rattle.hierarchy.proofs.Warms.{feeding}
 use Rattle.hierarchy.proofs.RunParts.{steps_went, runs_split, runs_whole, marks_split, length-marks}
 use Rattle.std.proofs.Math.Seq.{drop-append_seam}
+use Rattle.std.proofs.lemmas.List.{take_at}
 use Rattle.std.proofs.lemmas.List.Sums.{fold-append}
 
 -- a trace that is whole is the marks of a run that wasn't halted
@@ -88,6 +89,29 @@ traces_split l s m p n ms h =
       halt = parts.second;
       marks_are = drop_seam (marks l s r.events) _ ms p len parts.marks_are;
     })
+
+take_seam : (xs ys ms : List Marked) (p : ℕ) → length xs ≡ p → xs ++ ys ≡ ms → xs ≡ take p ms
+take_seam xs ys ms p len h = rw (← h) (sym (take_at xs ys p len))
+
+pub traces_begin :
+    (l : Latencies) (s : State) (m : machine.State) (p n : ℕ) (ms : List Marked)
+    → trace l s m (p + n) ≡ Ok ms → trace l s m p ≡ Ok (take p ms)
+traces_begin l s m p n ms h =
+    let r : Run = run_of m p in
+    let t : Run = run_of (run_of m p).after n in
+    let whole : IsWhole l s (joined r t) ms = rw (runs_split m p n) at (is_whole l s m (p + n) ms h) in
+    let parts : AreParts l s r t ms = are_parts l s r t ms whole in
+    let len : length (marks l s r.events) ≡ p =
+    length-marks l s r.events ∙ runs_whole m p parts.first in
+    from_whole l s m p (take p ms)
+    (record {
+      halt = parts.first;
+      marks_are = take_seam (marks l s r.events) _ ms p len parts.marks_are;
+    })
+
+pub none_annotated : (l : Latencies) (s : State) (m : machine.State) → IsAnnotated l s m 0 [] m s
+unfolding trace run_of marks after_events
+none_annotated l s m = record { trace_is = refl; machine_is = refl; state_is = refl }
 
 -- a run of one instruction
 one_step : (m after : machine.State) (e : Event) → m.exit ≡ None → next m ≡ Went e after

@@ -1,5 +1,5 @@
 -- Laws of runs, of their marks, and of the caches and the predictor that they leave.
-use Rattle.std.specs.Prelude.{◌≡◌, ℕ, ◌+◌, None, Ok, List, [], ◌∷◌, ◌++◌, drop, length, All}
+use Rattle.std.specs.Prelude.{◌≡◌, ℕ, ◌+◌, None, Ok, List, [], ◌∷◌, ◌++◌, drop, take, length, All}
 use Rattle.lru_plain.specs.Shape.{Shape}
 use Rattle.predictor.specs.declared.kind.PredictorKind.{PredictorKind}
 use Rattle.rv_exec.specs.Machine as machine
@@ -14,7 +14,7 @@ use Rattle.hierarchy.specs.declared.widths.Latencies.{Latencies}
 use Rattle.hierarchy.specs.Marked.{IsMarked}
 use Rattle.hierarchy.specs.Widths.{AreLatencies}
 use Rattle.hierarchy.specs.References.{warmed}
-use Rattle.hierarchy.specs.Runs.{run_of, joined, after_events, marks, trace}
+use Rattle.hierarchy.specs.Runs.{run_of, joined, after_events, marks, trace, IsAnnotated}
 
 -- a run can be cut at any instruction: it is a first part, and a second one from where that came to
 abbrev pub RunsSplit : Type 0
@@ -55,6 +55,12 @@ TracesSplit =
     → trace l s m (p + n) ≡ Ok ms
     → trace l (after_events s (run_of m p).events) (run_of m p).after n ≡ Ok (drop p ms)
 
+-- and the trace of the first p is its beginning
+abbrev pub TracesBegin : Type 0
+TracesBegin =
+    (l : Latencies) (s : State) (m : machine.State) (p n : ℕ) (ms : List Marked)
+    → trace l s m (p + n) ≡ Ok ms → trace l s m p ≡ Ok (take p ms)
+
 -- so the trace of a window of n instructions, with the machine, the caches and the predictor as they
 -- are at its start, is that part of the trace of the run that began with all of these empty
 abbrev pub WindowsAreParts : Type 0
@@ -62,6 +68,11 @@ WindowsAreParts =
     (l : Latencies) (g : Places Shape) (kind : PredictorKind) (m : machine.State) (p n : ℕ) (ms : List Marked)
     → trace l (warmed g kind []) m (p + n) ≡ Ok ms
     → trace l (warmed g kind (run_of m p).events) (run_of m p).after n ≡ Ok (drop p ms)
+
+-- before the first instruction nothing is annotated
+abbrev pub NoneIsAnnotated : Type 0
+NoneIsAnnotated =
+    (l : Latencies) (s : State) (m : machine.State) → IsAnnotated l s m 0 [] m s
 
 -- a trace has as many marks as it was asked for
 abbrev pub TracesAreWhole : Type 0
@@ -83,5 +94,7 @@ pub record AreRuns : Type 0 where
   pub marks_in_range : MarksAreInRange
   pub feeding : FeedingWarms
   pub traces_split : TracesSplit
+  pub traces_begin : TracesBegin
   pub windows : WindowsAreParts
+  pub none_annotated : NoneIsAnnotated
   pub traces_whole : TracesAreWhole

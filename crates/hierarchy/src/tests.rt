@@ -1,4 +1,5 @@
-ghost use Rattle.std.specs.Prelude.{IfOk};
+ghost use Rattle.std.specs.Prelude.{◌≡◌, IfOk};
+ghost use Rattle.lru_plain.specs.Cache.{empty_sets};
 ghost use Rattle.hierarchy.specs.Config.{IsConfig};
 
 use super::*;
@@ -130,6 +131,17 @@ fn event(class: Class, pc: u32, addr: Option<u32>, control: Flow, next: u32) -> 
         next,
         wrote: None,
     }
+}
+
+/// Empties the first cache of instructions, and nothing else.
+fn forget_instructions(state: &mut State)
+    ensures { state.new ≡ record state.old {
+      caches = record state.old.caches {
+        l1i = record state.old.caches.l1i { sets = empty_sets state.old.caches.l1i.shape };
+      };
+    } }
+{
+    state.caches().l1i.clear();
 }
 
 /// Whether the first set of a cache has these blocks.
@@ -300,7 +312,7 @@ fn marks_every_combination(rt: HostRuntime) -> Result<(), Fail> {
     assert!(rt; holds(&caches.l2, [0x301, 0x900].as_slice()));
     assert!(rt; holds(&caches.itlb, [3].as_slice()));
     assert!(rt; holds(&caches.dtlb, [9].as_slice()));
-    caches.l1i.clear();
+    forget_instructions(&mut state);
     // The line is in L2 still.
     annotate_all(
         &rt,

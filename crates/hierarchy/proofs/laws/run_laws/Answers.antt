@@ -1,6 +1,6 @@
 use Rattle.hierarchy.proofs.InRange.{marks_in_range}
 use Rattle.hierarchy.proofs.RunParts.{runs_split, runs_whole, marks_split}
-use Rattle.hierarchy.proofs.Traces.{one_more, traces_split, windows, traces_whole}
+use Rattle.hierarchy.proofs.Traces.{one_more, traces_split, traces_begin, none_annotated, windows, traces_whole}
 use Rattle.hierarchy.proofs.Warms.{feeding}
 use Rattle.hierarchy.proofs.laws.run_laws.Goals as goal
 
@@ -13,6 +13,8 @@ returns c = record {
   marks_in_range = marks_in_range;
   feeding = feeding;
   traces_split = traces_split;
+  traces_begin = traces_begin;
   windows = windows;
+  none_annotated = none_annotated;
   traces_whole = traces_whole;
 }
