@@ -1,6 +1,6 @@
 -- Marks in their ranges.
-use Rattle.std.proofs.Common.{◌≡◌, ◌≤◌, ◌+◌, ℕ, Bool, true, false, List, [], ◌∷◌, length, All, Option, Some, None, refl, arith, suc, ◌<◌, if◌then◌else◌}
-use Rattle.std.specs.Prelude.{◌↔◌, IsTrue, IsSome, is_some, ◌/◌}
+use Rattle.std.proofs.Common.{◌≡◌, ◌≤◌, ◌+◌, ℕ, Bool, true, false, List, [], ◌∷◌, All, Option, Some, None, refl, arith, suc, if◌then◌else◌}
+use Rattle.std.specs.Prelude.{◌↔◌, IsTrue, IsSome, is_some}
 use Rattle.std.specs.Option.{option_map}
 use Rattle.std.proofs.lemmas.List.Elements.{All-nil, All-cons}
 use Rattle.rv_isa.specs.declared.roles.Class.{Class}

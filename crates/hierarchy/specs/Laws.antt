@@ -1,12 +1,13 @@
 -- Laws of runs, of their marks, and of the caches and the predictor that they leave.
-use Rattle.std.specs.Prelude.{◌≡◌, ℕ, ◌+◌, None, Ok, List, [], ◌∷◌, ◌++◌, drop, take, length, All}
+use Rattle.std.specs.Prelude.{◌≡◌, ℕ, ◌+◌, ◌<◌, Some, None, Ok, Err, List, [], ◌∷◌, ◌++◌, drop, take, length, All}
 use Rattle.lru_plain.specs.Shape.{Shape}
 use Rattle.predictor.specs.declared.kind.PredictorKind.{PredictorKind}
 use Rattle.rv_exec.specs.Machine as machine
-use Rattle.rv_exec.specs.Machine.{Went}
+use Rattle.rv_exec.specs.Machine.{Went, Stopped}
 use Rattle.rv_exec.specs.Next.{next}
 use Rattle.rv_exec.specs.Events.{IsWellFormed}
 use Rattle.rv_exec.specs.declared.event.Event.{Event}
+use Rattle.rv_exec.specs.declared.event.TrapKind.{TrapKind}
 use Rattle.hierarchy.specs.declared.marked.Marked.{Marked}
 use Rattle.hierarchy.specs.declared.places.Places.{Places}
 use Rattle.hierarchy.specs.declared.state.State.{State}
@@ -14,7 +15,7 @@ use Rattle.hierarchy.specs.declared.widths.Latencies.{Latencies}
 use Rattle.hierarchy.specs.Marked.{IsMarked}
 use Rattle.hierarchy.specs.Widths.{AreLatencies}
 use Rattle.hierarchy.specs.References.{warmed}
-use Rattle.hierarchy.specs.Runs.{run_of, joined, after_events, marks, trace, IsAnnotated}
+use Rattle.hierarchy.specs.Runs.{Trapped, AfterExit, run_of, joined, after_events, marks, trace, IsAnnotated}
 
 -- a run can be cut at any instruction: it is a first part, and a second one from where that came to
 abbrev pub RunsSplit : Type 0
@@ -74,6 +75,20 @@ abbrev pub NoneIsAnnotated : Type 0
 NoneIsAnnotated =
     (l : Latencies) (s : State) (m : machine.State) → IsAnnotated l s m 0 [] m s
 
+-- where the instruction that comes next traps, every longer trace is that trap
+abbrev pub TracesTrap : Type 0
+TracesTrap =
+    (l : Latencies) (first s : State) (start now : machine.State) (n len : ℕ) (ms : List Marked) (kind : TrapKind)
+    → IsAnnotated l first start n ms now s → now.exit ≡ None → next now ≡ Stopped kind → n < len
+    → trace l first start len ≡ Err (Trapped (record { kind = kind; pc = now.pc }))
+
+-- where the program has exited, every longer trace says so
+abbrev pub TracesExit : Type 0
+TracesExit =
+    (l : Latencies) (first s : State) (start now : machine.State) (n len : ℕ) (ms : List Marked) (code : ℕ)
+    → IsAnnotated l first start n ms now s → now.exit ≡ Some code → n < len
+    → trace l first start len ≡ Err (AfterExit now.pc)
+
 -- a trace has as many marks as it was asked for
 abbrev pub TracesAreWhole : Type 0
 TracesAreWhole =
@@ -97,4 +112,6 @@ pub record AreRuns : Type 0 where
   pub traces_begin : TracesBegin
   pub windows : WindowsAreParts
   pub none_annotated : NoneIsAnnotated
+  pub traces_trap : TracesTrap
+  pub traces_exit : TracesExit
   pub traces_whole : TracesAreWhole
