@@ -1,5 +1,5 @@
 -- A block that is looked for in a set.
-use Rattle.std.proofs.Common.{◌≡◌, ℕ, Bool, true, false, List, refl, sym, ◌∙◌}
+use Rattle.std.proofs.Common.{◌≡◌, ℕ, Bool, true, false, List, refl, sym}
 use Rattle.std.specs.Prelude.{◌==◌, ◌↔◌, IsTrue, Contains}
 use Rattle.std.specs.List.{list_any}
 use Rattle.std.proofs.lemmas.Bool.{eqb-true, false≢true}

@@ -1,4 +1,5 @@
 pub mod Found
+pub mod InRange
 pub mod RunParts
 pub mod Traces
 pub mod Warms

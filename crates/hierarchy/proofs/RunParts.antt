@@ -1,6 +1,5 @@
 -- Parts of runs and of their marks.
-use Rattle.std.proofs.Common.{◌≡◌, ℕ, zero, suc, ◌+◌, List, [], ◌∷◌, ◌++◌, length, drop, refl, sym, ◌∙◌, ap, arith, Option, Some, None, Result, Ok, Err, zero-add, add-one}
-use Rattle.smarts_base.specs.Least.{or_else}
+use Rattle.std.proofs.Common.{◌≡◌, ℕ, zero, suc, ◌+◌, List, [], ◌∷◌, ◌++◌, length, refl, ◌∙◌, ap, arith, Option, Some, None, zero-add}
 use Rattle.rv_exec.specs.Machine as machine
 use Rattle.rv_exec.specs.Machine.{Outcome, Went, Stopped}
 use Rattle.rv_exec.specs.Next.{next}
@@ -10,8 +9,7 @@ use Rattle.hierarchy.specs.declared.marked.Marked.{Marked}
 use Rattle.hierarchy.specs.declared.state.State.{State}
 use Rattle.hierarchy.specs.declared.widths.Latencies.{Latencies}
 use Rattle.hierarchy.specs.Marking.{mark_of, after_event}
-use Rattle.hierarchy.specs.Runs.{Halt, Trapped, AfterExit, Run, halted, with_first, steps, run_of, joined, after_events, marks, unless_halted, trace, IsAnnotated}
-use Rattle.std.proofs.Math.Seq.{drop-append_seam}
+use Rattle.hierarchy.specs.Runs.{Halt, Trapped, AfterExit, Run, halted, with_first, steps, run_of, joined, after_events, marks}
 
 -- the first instruction of a run, case by case
 steps_exited :
@@ -31,6 +29,18 @@ pub steps_went :
     → exit ≡ None → outcome ≡ Went e after → steps exit outcome m rest ≡ with_first e (rest after)
 steps_went exit outcome m rest e after h k = rw (h, k) refl
 
+-- a run that can't begin
+pub run_exited :
+    (m : machine.State) (n code : ℕ) → m.exit ≡ Some code → run_of m (suc n) ≡ halted m (AfterExit m.pc)
+unfolding run_of
+run_exited m n code exit = steps_exited m.exit (next m) m (λ t. run_of t n) code exit
+
+pub run_trapped :
+    (m : machine.State) (n : ℕ) (kind : TrapKind) → m.exit ≡ None → next m ≡ Stopped kind
+    → run_of m (suc n) ≡ halted m (Trapped (record { kind = kind; pc = m.pc }))
+unfolding run_of
+run_trapped m n kind exit stopped = steps_stopped m.exit (next m) m (λ t. run_of t n) kind exit stopped
+
 -- where no instruction can be done, a run stays where it is
 record Stays (m : machine.State) (r : Run) : Type 0 where
   events : r.events ≡ []
@@ -42,15 +52,13 @@ stays_halted m halt r h = rw h (record { events = refl; after = refl })
 stays_after_exit : (m : machine.State) (code n : ℕ) → m.exit ≡ Some code → Stays m (run_of m n)
 unfolding run_of
 stays_after_exit m code zero exit = record { events = refl; after = refl }
-stays_after_exit m code (suc n) exit =
-    stays_halted m _ _ (steps_exited m.exit (next m) m (λ t. run_of t n) code exit)
+stays_after_exit m code (suc n) exit = stays_halted m _ _ (run_exited m n code exit)
 
 stays_at_trap :
     (m : machine.State) (kind : TrapKind) (n : ℕ) → m.exit ≡ None → next m ≡ Stopped kind → Stays m (run_of m n)
 unfolding run_of
 stays_at_trap m kind zero exit stopped = record { events = refl; after = refl }
-stays_at_trap m kind (suc n) exit stopped =
-    stays_halted m _ _ (steps_stopped m.exit (next m) m (λ t. run_of t n) kind exit stopped)
+stays_at_trap m kind (suc n) exit stopped = stays_halted m _ _ (run_trapped m n kind exit stopped)
 
 joined_to_halted :
     (m : machine.State) (halt : Halt) (r : Run) → Stays m r → halted m halt ≡ joined (halted m halt) r

@@ -1,6 +1,6 @@
 -- Caches and predictor that learn one instruction more.
-use Rattle.std.proofs.Common.{◌≡◌, ℕ, Bool, true, false, List, [], ◌∷◌, ◌++◌, refl, sym, ◌∙◌, ap, Option, Some, None, append_assoc}
-use Rattle.std.specs.Prelude.{map, filter}
+use Rattle.std.proofs.Common.{◌≡◌, ℕ, List, [], ◌∷◌, ◌++◌, refl, sym, ◌∙◌, ap, Option, Some, None, append_assoc}
+use Rattle.std.specs.Prelude.{filter}
 use Rattle.std.proofs.lemmas.List.{map-append, append-nil}
 use Rattle.std.proofs.lemmas.List.Elements.{filter-append}
 use Rattle.lru_plain.specs.Shape.{Shape}
@@ -8,7 +8,7 @@ use Rattle.lru_plain.specs.Cache.{Cache, plain}
 use Rattle.lru_plain.proofs.Plains.{plain_more}
 use Rattle.predictor.specs.declared.kind.PredictorKind.{PredictorKind}
 use Rattle.predictor.specs.Tables.{Tables}
-use Rattle.predictor.specs.Rules.{trained, observed, flow_learnt}
+use Rattle.predictor.specs.Rules.{trained, observed}
 use Rattle.predictor.proofs.Trains.{trained_more}
 use Rattle.rv_exec.specs.Events.{is_transfer}
 use Rattle.rv_exec.specs.declared.event.DataRef.{DataRef}

@@ -1,17 +1,21 @@
 -- Laws of runs, of their marks, and of the caches and the predictor that they leave.
-use Rattle.std.specs.Prelude.{◌≡◌, ℕ, ◌+◌, None, Ok, List, [], ◌∷◌, ◌++◌, drop, length}
+use Rattle.std.specs.Prelude.{◌≡◌, ℕ, ◌+◌, ◌<◌, Some, None, Ok, Err, List, [], ◌∷◌, ◌++◌, drop, take, length, All}
 use Rattle.lru_plain.specs.Shape.{Shape}
 use Rattle.predictor.specs.declared.kind.PredictorKind.{PredictorKind}
 use Rattle.rv_exec.specs.Machine as machine
-use Rattle.rv_exec.specs.Machine.{Went}
+use Rattle.rv_exec.specs.Machine.{Went, Stopped}
 use Rattle.rv_exec.specs.Next.{next}
+use Rattle.rv_exec.specs.Events.{IsWellFormed}
 use Rattle.rv_exec.specs.declared.event.Event.{Event}
+use Rattle.rv_exec.specs.declared.event.TrapKind.{TrapKind}
 use Rattle.hierarchy.specs.declared.marked.Marked.{Marked}
 use Rattle.hierarchy.specs.declared.places.Places.{Places}
 use Rattle.hierarchy.specs.declared.state.State.{State}
 use Rattle.hierarchy.specs.declared.widths.Latencies.{Latencies}
+use Rattle.hierarchy.specs.Marked.{IsMarked}
+use Rattle.hierarchy.specs.Widths.{AreLatencies}
 use Rattle.hierarchy.specs.References.{warmed}
-use Rattle.hierarchy.specs.Runs.{run_of, joined, after_events, marks, trace}
+use Rattle.hierarchy.specs.Runs.{Trapped, AfterExit, run_of, joined, after_events, marks, trace, IsAnnotated}
 
 -- a run can be cut at any instruction: it is a first part, and a second one from where that came to
 abbrev pub RunsSplit : Type 0
@@ -23,6 +27,13 @@ RunsSplit =
 abbrev pub RunsAreWhole : Type 0
 RunsAreWhole =
     (m : machine.State) (n : ℕ) → (run_of m n).halt ≡ None → length (run_of m n).events ≡ n
+
+-- a run grows by the instruction that comes next
+abbrev pub RunsGrow : Type 0
+RunsGrow =
+    (m now after : machine.State) (n : ℕ) (e : Event) → now ≡ (run_of m n).after → now.exit ≡ None
+    → next now ≡ Went e after
+    → run_of m (n + 1) ≡ joined (run_of m n) (record { events = e ∷ []; after = after; halt = None })
 
 -- marks can be cut at any instruction too
 abbrev pub MarksSplit : Type 0
@@ -45,9 +56,62 @@ TracesSplit =
     → trace l s m (p + n) ≡ Ok ms
     → trace l (after_events s (run_of m p).events) (run_of m p).after n ≡ Ok (drop p ms)
 
+-- and the trace of the first p is its beginning
+abbrev pub TracesBegin : Type 0
+TracesBegin =
+    (l : Latencies) (s : State) (m : machine.State) (p n : ℕ) (ms : List Marked)
+    → trace l s m (p + n) ≡ Ok ms → trace l s m p ≡ Ok (take p ms)
+
+-- so the trace of a window of n instructions, with the machine, the caches and the predictor as they
+-- are at its start, is that part of the trace of the run that began with all of these empty
+abbrev pub WindowsAreParts : Type 0
+WindowsAreParts =
+    (l : Latencies) (g : Places Shape) (kind : PredictorKind) (m : machine.State) (p n : ℕ) (ms : List Marked)
+    → trace l (warmed g kind []) m (p + n) ≡ Ok ms
+    → trace l (warmed g kind (run_of m p).events) (run_of m p).after n ≡ Ok (drop p ms)
+
+-- before the first instruction nothing is annotated
+abbrev pub NoneIsAnnotated : Type 0
+NoneIsAnnotated =
+    (l : Latencies) (s : State) (m : machine.State) → IsAnnotated l s m 0 [] m s
+
+-- where the instruction that comes next traps, every longer trace is that trap
+abbrev pub TracesTrap : Type 0
+TracesTrap =
+    (l : Latencies) (first s : State) (start now : machine.State) (n len : ℕ) (ms : List Marked) (kind : TrapKind)
+    → IsAnnotated l first start n ms now s → now.exit ≡ None → next now ≡ Stopped kind → n < len
+    → trace l first start len ≡ Err (Trapped (record { kind = kind; pc = now.pc }))
+
+-- where the program has exited, every longer trace says so
+abbrev pub TracesExit : Type 0
+TracesExit =
+    (l : Latencies) (first s : State) (start now : machine.State) (n len : ℕ) (ms : List Marked) (code : ℕ)
+    → IsAnnotated l first start n ms now s → now.exit ≡ Some code → n < len
+    → trace l first start len ≡ Err (AfterExit now.pc)
+
+-- a trace has as many marks as it was asked for
+abbrev pub TracesAreWhole : Type 0
+TracesAreWhole =
+    (l : Latencies) (s : State) (m : machine.State) (n : ℕ) (ms : List Marked)
+    → trace l s m n ≡ Ok ms → length ms ≡ n
+
+-- marks are in their ranges where the latencies are
+abbrev pub MarksAreInRange : Type 0
+MarksAreInRange =
+    (l : Latencies) (s : State) (es : List Event) → AreLatencies l → All IsWellFormed es
+    → All IsMarked (marks l s es)
+
 pub record AreRuns : Type 0 where
   pub runs_split : RunsSplit
   pub runs_whole : RunsAreWhole
+  pub runs_grow : RunsGrow
   pub marks_split : MarksSplit
+  pub marks_in_range : MarksAreInRange
   pub feeding : FeedingWarms
   pub traces_split : TracesSplit
+  pub traces_begin : TracesBegin
+  pub windows : WindowsAreParts
+  pub none_annotated : NoneIsAnnotated
+  pub traces_trap : TracesTrap
+  pub traces_exit : TracesExit
+  pub traces_whole : TracesAreWhole

@@ -8,6 +8,8 @@ mod lookup;
 mod marked;
 mod places;
 mod state;
+#[cfg(test)]
+mod tests;
 mod widths;
 
 pub use config::{Config, ConfigFault};

@@ -47,11 +47,10 @@ pub(crate) fn fetch(caches: &mut Places<PlainCache>, pc: u32) -> Hits
     ensures hits { result ≡ fetch_hits caches.old pc }
     ensures caches { caches.new ≡ fetched caches.old pc }
 {
-    Hits {
-        tlb: touch(&mut caches.itlb, pc),
-        first: touch(&mut caches.l1i, pc),
-        second: touch(&mut caches.l2, pc),
-    }
+    let tlb = touch(&mut caches.itlb, pc);
+    let first = touch(&mut caches.l1i, pc);
+    let second = touch(&mut caches.l2, pc);
+    Hits { tlb, first, second }
 }
 
 /// Makes a load's or store's reference to data, if there is one.
@@ -60,11 +59,10 @@ pub(crate) fn refer(caches: &mut Places<PlainCache>, access: Option<DataRef>) ->
     ensures caches { caches.new ≡ referred caches.old access }
 {
     let addr = access?.addr;
-    Some(Hits {
-        tlb: touch(&mut caches.dtlb, addr),
-        first: touch(&mut caches.l1d, addr),
-        second: touch(&mut caches.l2, addr),
-    })
+    let tlb = touch(&mut caches.dtlb, addr);
+    let first = touch(&mut caches.l1d, addr);
+    let second = touch(&mut caches.l2, addr);
+    Some(Hits { tlb, first, second })
 }
 
 /// The cycles from issue to completion of an instruction with this reference to data.

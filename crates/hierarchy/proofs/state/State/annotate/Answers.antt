@@ -1,5 +1,4 @@
-use Rattle.std.proofs.Common.{◌∙◌, ap, subst, sym, List, ◌++◌, ◌∷◌, []}
-use Rattle.hierarchy.specs.declared.marked.Marked.{Marked}
+use Rattle.std.proofs.Common.{◌∙◌, ap}
 use Rattle.hierarchy.specs.declared.state.State.{State}
 use Rattle.hierarchy.specs.Marking.{after_event}
 use Rattle.hierarchy.proofs.Traces.{annotated_more}

@@ -1,5 +1,4 @@
-use Rattle.std.proofs.Common.{sym, ◌∙◌}
-use Rattle.hierarchy.proofs.Warms.{warmed_none, empty_cache, same_caches}
+use Rattle.hierarchy.proofs.Warms.{empty_cache, same_caches}
 use Rattle.hierarchy.proofs.state.State.new.Goals as goal
 
 pub returns : goal.returns
