@@ -3,3 +3,4 @@ pub mod Slots
 pub mod Nexts
 pub mod Totals
 pub mod Scalars
+pub mod IssueTable

@@ -4,10 +4,14 @@
 
 mod class;
 mod earlier;
+mod flight;
+mod issues;
+mod latest;
 mod laws;
 mod rows;
 mod ruu;
 mod scalar;
+mod tables;
 mod timed;
 mod trace;
 

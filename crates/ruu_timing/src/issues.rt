@@ -1,0 +1,87 @@
+//! How many instructions issue in each cycle.
+ghost use Rattle.std.specs.Prelude.{◌≡◌, ◌+◌, ◌^◌, ◌<◌, ◌≤◌, length, max, true};
+ghost use Rattle.hierarchy.specs.Widths.{AreWidths};
+ghost use Rattle.ruu_timing.specs.Class.{number_of, limit_of};
+ghost use Rattle.ruu_timing.specs.Issues.{idle, place_of, slot_at, has_room, issued_in};
+ghost use Rattle.ruu_timing.specs.Laws.{IsFirst};
+ghost use Rattle.ruu_timing.specs.Rows.{Each};
+
+use crate::class::{limit_of, number_of};
+use hierarchy::Widths;
+use rv_isa::Class;
+
+/// The instructions that issue in a cycle, in all and of each class.
+#[derive(Clone, Copy, Debug)]
+pub(crate) struct Slot {
+    pub(crate) cycle: u64,
+    pub(crate) issued: u8,
+    pub(crate) alike: [u8; 7],
+}
+
+fn idle(cycle: u64) -> Slot
+    ensures { result ≡ idle cycle }
+{
+    Slot {
+        cycle,
+        issued: 0,
+        alike: [0; 7],
+    }
+}
+
+fn place_of(slots: &[Slot], t: u64) -> usize
+    requires { 0 < length slots.now }
+    ensures value { result ≡ place_of slots.now t }
+    ensures within { result < length slots.now }
+{
+    (t % slots.len() as u64) as usize
+}
+
+fn slot_at(slots: &[Slot], t: u64) -> Slot
+    requires { 0 < length slots.now }
+    ensures { result ≡ slot_at slots.now t }
+{
+    let slot = slots[place_of(slots, t)];
+    if slot.cycle == t { slot } else { idle(t) }
+}
+
+/// Whether one more instruction of a class can issue in a cycle.
+#[tactic(auto, unfolding(crate::specs::Issues::has_room))]
+pub(crate) fn has_room(w: &Widths, slots: &[Slot], class: Class, t: u64) -> bool
+    requires { 0 < length slots.now }
+    ensures { result ≡ has_room w.now slots.now class t }
+{
+    let slot = slot_at(slots, t);
+    let alike = slot.alike[number_of(class)];
+    u32::from(slot.issued) < w.issue && u32::from(alike) < limit_of(w, class)
+}
+
+/// Notes one more instruction of a class that issues in a cycle.
+pub(crate) fn issue_in(w: &Widths, slots: &mut [Slot], class: Class, t: u64)
+    requires widths { AreWidths w.now }
+    requires some { 0 < length slots.old }
+    requires room { has_room w.now slots.old class t ≡ true }
+    ensures { slots.new ≡ issued_in slots.old class t }
+{
+    let mut slot = slot_at(slots, t);
+    slot.issued += 1;
+    slot.alike[number_of(class)] += 1;
+    let place = place_of(slots, t);
+    slots[place] = slot;
+}
+
+/// The first cycle from `ready` on that has room for one more instruction of a class. `last` is the
+/// last one in which anything issues.
+pub(crate) fn first_room(w: &Widths, slots: &[Slot], class: Class, ready: u64, last: u64) -> u64
+    requires widths { AreWidths w.now }
+    requires some { 0 < length slots.now }
+    requires before { Each (λ slot. slot.cycle ≤ last) slots.now }
+    requires small { (ready ≤ 2 ^ 50) × (last ≤ 2 ^ 50) }
+    ensures value { IsFirst (has_room w.now slots.now class) ready result }
+    ensures bound { result ≤ max ready (last + 1) }
+{
+    let mut t = ready;
+    'wait: while !has_room(w, slots, class, t) {
+        t += 1;
+    }
+    t
+}
