@@ -4,3 +4,5 @@ pub mod Nexts
 pub mod Totals
 pub mod Scalars
 pub mod IssueTable
+pub mod KeptLaws
+pub mod KeptNext

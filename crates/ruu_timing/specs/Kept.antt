@@ -1,5 +1,5 @@
 -- What is kept of the instructions before one, and how much of it is enough for its times.
-use Rattle.std.specs.Prelude.{◌≡◌, ◌<◌, ◌≤◌, ℕ, ◌+◌, ◌*◌, ◌%◌, ◌^◌, max, nat_le, if◌then◌else◌, List, length, take, get_or, slice_set, Option, Some, None}
+use Rattle.std.specs.Prelude.{◌≡◌, ◌<◌, ◌≤◌, ℕ, ◌+◌, ◌*◌, ◌%◌, ◌^◌, max, nat_le, if◌then◌else◌, List, ◌∷◌, length, take, get_or, slice_set, Option, Some, None}
 use Rattle.std.specs.Option.{IfSome}
 use Rattle.circular_buffer.specs.Buffer.{buffer}
 use Rattle.hierarchy.specs.declared.marked.Marked.{Marked}
@@ -9,7 +9,7 @@ use Rattle.ruu_timing.specs.declared.timed.Timed.{Timed}
 use Rattle.ruu_timing.specs.declared.flight.Flight.{Flight}
 use Rattle.ruu_timing.specs.declared.issues.Slot.{Slot}
 use Rattle.ruu_timing.specs.Class.{is_load, is_store, is_ecall}
-use Rattle.ruu_timing.specs.Issues.{HasIssued}
+use Rattle.ruu_timing.specs.Issues.{HasIssued, issued_in}
 use Rattle.ruu_timing.specs.Rows.{Each, IsWithin, AreTimed, last_of}
 use Rattle.ruu_timing.specs.Times.{back, time_of, memory_ones, written, stored, stores_to}
 
@@ -77,6 +77,8 @@ pub record IsFlight (w : Widths) (f : Flight) : Type 0 where
   pub stores : length f.stores.items ≡ 256
   pub wide : span w ≤ length f.slots.items
   pub small : Each (IsWithin (2 ^ 32)) f.rows.items
+  pub small_accesses : Each (IsWithin (2 ^ 32)) f.accesses.items
+  pub small_registers : Each (λ completion. completion ≤ 2 ^ 32) f.registers.items
   pub before : Each (λ slot. slot.cycle ≤ f.start + last_of f.rows.items) f.slots.items
   pub sevens : Each (λ slot. length slot.alike ≡ 7) f.slots.items
   pub start : f.start ≤ 2 ^ 41
@@ -93,3 +95,20 @@ pub record IsKept (w : Widths) (earlier : List Timed) (f : Flight) : Type 0 wher
   pub slots : HasIssued earlier f.slots.items f.start
   pub wide : span w ≤ length f.slots.items
   pub start : f.start ≤ 2 ^ 41
+
+-- a register's number
+abbrev pub IsRegister : Option ℕ → Type 0
+IsRegister register = IfSome register (λ r. r < 2 ^ 8)
+
+-- one more instruction stands in all parts
+pub record IsNoted (old new : Flight) (x : Timed) : Type 0 where
+  pub rows : new.rows ≡ buffer (take old.rows.capacity (x ∷ old.rows.items)) old.rows.capacity
+  pub accesses : new.accesses ≡
+      (if accesses_memory x.mark.class
+      then buffer (take old.accesses.capacity (x ∷ old.accesses.items)) old.accesses.capacity
+      else old.accesses)
+  pub registers : new.registers.items ≡ completed_by old.registers.items x.mark.dest x.completion
+  pub stores : new.stores.items ≡
+      (if is_store x.mark.class then latest_with old.stores.items x.mark.word x.completion else old.stores.items)
+  pub slots : new.slots.items ≡ issued_in old.slots.items x.mark.class (old.start + x.issue)
+  pub start : new.start ≡ old.start

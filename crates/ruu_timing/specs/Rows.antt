@@ -20,11 +20,13 @@ pub record IsWithin (last : ℕ) (x : Timed) : Type 0 where
 abbrev pub last_of : List Timed → ℕ
 last_of earlier = time_of (λ x. x.retirement) (back earlier 1)
 
--- it is retired with the one before it or up to 4096 cycles later, and after the 16th before it
+-- it is retired with the one before it or up to 4096 cycles later, after the 16th before it,
+-- and after its own completion
 pub record IsRetiredAfter (earlier : List Timed) (x : Timed) : Type 0 where
   pub rises : last_of earlier ≤ x.retirement
   pub soon : x.retirement ≤ last_of earlier + 4096
   pub wide : time_of (λ y. y.retirement) (back earlier 16) < x.retirement
+  pub complete : x.completion < x.retirement
 
 abbrev pub AreInOrder : List Timed → Type 0
 AreInOrder [] = Unit {0}

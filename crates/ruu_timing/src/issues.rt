@@ -1,5 +1,5 @@
 //! How many instructions issue in each cycle.
-ghost use Rattle.std.specs.Prelude.{◌≡◌, ◌+◌, ◌^◌, ◌<◌, ◌≤◌, length, max, true};
+ghost use Rattle.std.specs.Prelude.{◌≡◌, ◌+◌, ◌^◌, ◌<◌, ◌≤◌, length, max, replicate, IfOk, true};
 ghost use Rattle.hierarchy.specs.Widths.{AreWidths};
 ghost use Rattle.ruu_timing.specs.Class.{number_of, limit_of};
 ghost use Rattle.ruu_timing.specs.Issues.{idle, place_of, slot_at, has_room, issued_in};
@@ -9,6 +9,8 @@ ghost use Rattle.ruu_timing.specs.Rows.{Each};
 use crate::class::{limit_of, number_of};
 use hierarchy::Widths;
 use rv_isa::Class;
+use smarts_base::NoMemory;
+use std::alloc::Global;
 
 /// The instructions that issue in a cycle, in all and of each class.
 #[derive(Clone, Copy, Debug)]
@@ -84,4 +86,32 @@ pub(crate) fn first_room(w: &Widths, slots: &[Slot], class: Class, ready: u64, l
         t += 1;
     }
     t
+}
+
+/// A table of so many places, in which nothing issues.
+pub(crate) fn all_idle(alloc: Global, size: usize) -> Result<Vec<Slot>, NoMemory>
+    ensures { IfOk result (λ slots. slots.items ≡ replicate size (idle 0)) }
+{
+    let mut slots = Vec::with_capacity(alloc, size)?;
+    for _place in 0..size {
+        slots.push_reserved(idle(0));
+    }
+    Ok(slots)
+}
+
+/// The first cycle of a further trace: behind all that the table knows of, so that the table need
+/// not be emptied, as long as there are cycles.
+pub(crate) fn next_start(slots: &mut [Slot], start: u64) -> u64
+    requires before { Each (λ slot. slot.cycle ≤ start) slots.old }
+    requires sevens { Each (λ slot. length slot.alike ≡ 7) slots.old }
+    ensures start { result ≤ 2 ^ 41 }
+    ensures before { Each (λ slot. slot.cycle ≤ result) slots.new }
+    ensures sevens { Each (λ slot. length slot.alike ≡ 7) slots.new }
+    ensures size { length slots.new ≡ length slots.old }
+{
+    if start <= 1 << 41 {
+        return start;
+    }
+    slots.fill(idle(0));
+    0
 }

@@ -8,6 +8,7 @@ mod flight;
 mod issues;
 mod latest;
 mod laws;
+mod plain;
 mod rows;
 mod ruu;
 mod scalar;
@@ -16,6 +17,7 @@ mod timed;
 mod trace;
 
 pub use laws::issue_law;
+pub use plain::PlainRuu;
 pub use ruu::Ruu;
 pub use scalar::scalar_time;
 pub use timed::Timed;

@@ -1,11 +1,12 @@
 //! When registers and words of memory are there.
 ghost use Rattle.std.specs.Prelude.{◌≡◌, ◌≤◌, ◌<◌, length};
-ghost use Rattle.ruu_timing.specs.Kept.{completed, completed_by, latest_store, latest_with};
+ghost use Rattle.ruu_timing.specs.Kept.{IsRegister, completed, completed_by, latest_store, latest_with};
 
 /// When the last writer of a register has completed.
 pub(crate) fn completed(registers: &[u64], register: Option<u8>) -> u64
     requires { length registers.now ≡ 256 }
-    ensures { result ≡ completed registers.now register }
+    ensures value { result ≡ completed registers.now register }
+    ensures register { IsRegister register }
 {
     match register {
         Some(register) => registers[usize::from(register)],
