@@ -1,8 +1,9 @@
 -- The table of issues says how many earlier instructions issue in each cycle that can still be asked for.
 use Rattle.std.proofs.Common.{◌≡◌, ◌≢◌,  ◌+◌, ◌-◌, ◌*◌, ◌/◌, ◌%◌, ◌<◌, ◌≤◌, ◌==◌, ◌&&◌, ℕ, zero, suc, Bool, true, false, cond, if◌then◌else◌, List, [], ◌∷◌, length, get_or, set, replicate, filter, nat_lt, refl, sym, ◌∙◌, ap, subst, arith, inl, inr}
+use Rattle.std.specs.Int.Bits.{bit_and}
 use Rattle.std.proofs.Math.Nat.{div-add-mod, mul-le-mul_left, mul-suc}
 use Rattle.std.proofs.lemmas.Bool.{ltb-true, and_parts, cases_eq, cases_lt, lt-ltb, eq-eqb, ne_eqb, false≢true}
-use Rattle.std.proofs.lemmas.Nat.{mod_below}
+use Rattle.std.proofs.lemmas.Nat.{mod_below, and_mask, pow_pos}
 use Rattle.std.proofs.lemmas.List.{get_or-set_same, get_or-set_other, get_or-replicate, length-set}
 use Rattle.rv_isa.specs.declared.roles.Class.{Class}
 use Rattle.rv_isa.specs.declared.roles.Class.TheVariants.{Alu, Mul, Div, Load, Store, Control, Ecall}
@@ -11,7 +12,7 @@ use Rattle.hierarchy.specs.Widths.{AreWidths}
 use Rattle.ruu_timing.specs.declared.issues.Slot.{Slot}
 use Rattle.ruu_timing.specs.declared.timed.Timed.{Timed}
 use Rattle.ruu_timing.specs.Class.{number_of, is_same, limit_of}
-use Rattle.ruu_timing.specs.Issues.{idle, place_of, slot_at, alike_in, has_room, one_more, issued_in, dispatched, HasIssued}
+use Rattle.ruu_timing.specs.Issues.{IsPower, idle, place_of, slot_at, alike_in, has_room, one_more, issued_in, dispatched, HasIssued}
 use Rattle.ruu_timing.proofs.Slots.{limit_positive}
 use Rattle.ruu_timing.specs.Times.{issues_at, issues_alike, has_slot}
 use Rattle.ruu_timing.specs.Rows.{Each, last_of}
@@ -24,6 +25,13 @@ limit_small w Load widths = widths.loads.1
 limit_small w Store widths = widths.stores.1
 limit_small w Control widths = widths.branches.1
 limit_small w Ecall widths = omega arith
+
+pub power_some : (n : ℕ) → IsPower n → 0 < n
+power_some n power = rw power.is (pow_pos power.exponent)
+
+-- a mask in place of a division
+pub masked : (t n : ℕ) → IsPower n → bit_and t (n - 1) ≡ t % n
+masked t n power = rw power.is (and_mask t power.exponent)
 
 -- where there is room, the counters are far from their end
 pub room_small :

@@ -21,7 +21,7 @@ use Rattle.ruu_timing.specs.Rows.{Each, AreTimed, AreInOrder, last_of}
 use Rattle.ruu_timing.specs.Times.{back, time_of, fetch_of, dispatch_of, memory_ones, accesses, stores_to, is_given, written, stored, ready_of, issue_of, retirement_of, timed_of}
 use Rattle.ruu_timing.proofs.Bounds.{each_filter, each_find}
 use Rattle.ruu_timing.proofs.IssueTable.{same_slot}
-use Rattle.ruu_timing.proofs.Nexts.{IsDispatch, ready_is}
+use Rattle.ruu_timing.proofs.Nexts.{IsDispatch, ready_is, dispatched_before}
 use Rattle.ruu_timing.proofs.Slots.{first_is_issue}
 
 slice_get_take : {X : Type 0} (n i : ℕ) (xs : List X) → i < n → slice_get (take n xs) i ≡ slice_get xs i
@@ -148,10 +148,6 @@ access_waits :
     → time_of (λ x. x.retirement) (back (memory_ones earlier) w.lsq) ≤ dispatch_of w earlier m fetch
 unfolding dispatch_of
 access_waits w earlier m fetch e = rw e (omega arith)
-
-pub dispatched_before : (w : Widths) (earlier : List Timed) (m : Marked) (fetch : ℕ) → dispatched earlier ≤ dispatch_of w earlier m fetch
-unfolding dispatch_of
-dispatched_before w earlier m fetch = omega arith
 
 pub unit_waits :
     (w : Widths) (earlier : List Timed) (m : Marked) (fetch : ℕ)

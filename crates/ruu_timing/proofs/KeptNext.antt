@@ -19,10 +19,10 @@ use Rattle.ruu_timing.specs.Issues.{place_of, slot_at, one_more, dispatched, iss
 use Rattle.ruu_timing.specs.Kept.{completed_by, latest_store, latest_with, HasWritten, HasStored, depth, span, IsFlight, IsKept, IsNoted}
 use Rattle.ruu_timing.specs.Rows.{Each, IsWithin, AreTimed, IsRetiredAfter, last_of}
 use Rattle.ruu_timing.specs.Times.{back, time_of, memory_ones, accesses, writes, stores_to, is_given, written, stored, timed_of, fetch_of, dispatch_of, ready_of, issue_of, retirement_of}
-use Rattle.ruu_timing.proofs.Bounds.{retired, retired_soon, small, last_small, each_filter, each_find}
+use Rattle.ruu_timing.proofs.Bounds.{retired, retired_near, small, last_small, each_filter, each_find}
 use Rattle.ruu_timing.proofs.IssueTable.{IsNext, issued_kept}
-use Rattle.ruu_timing.proofs.KeptLaws.{last_same, dispatched_before, unit_waits}
-use Rattle.ruu_timing.proofs.Nexts.{IsDispatch, ready_is, issue_is, written_le, next_times, next_timed}
+use Rattle.ruu_timing.proofs.KeptLaws.{last_same, unit_waits}
+use Rattle.ruu_timing.proofs.Nexts.{IsDispatch, dispatched_before, ready_is, issue_is, written_le, next_times, next_timed}
 
 take_cons : {X : Type 0} (n : ℕ) (x : X) (xs : List X) → take n (x ∷ take n xs) ≡ take n (x ∷ xs)
 take_cons zero x xs = refl
@@ -108,10 +108,12 @@ is_next w earlier m size widths marked timed wide =
     let issues : (ready ≤ issue) × (issue ≤ max ready (last_of earlier)) = issue_is w earlier m.class ready widths timed in
     let next = next_times w earlier m widths marked timed in
     let room : retired earlier (w.ruu - 1) ≤ dispatch = unit_waits w earlier m fetch in
-    let soon : retired earlier 0 ≤ retired earlier (w.ruu - 1) + 4096 * (w.ruu - 1) = retired_soon earlier (w.ruu - 1) timed.order in
-    let close : last_of earlier < dispatch + size = omega (arith, room, soon, wide, widths.ruu.0) in
+    let before : dispatched earlier ≤ dispatch = dispatched_before w earlier m fetch in
+    let soon : retired earlier 0 ≤ max (retired earlier (w.ruu - 1)) (dispatched earlier) + 1220 * (w.ruu - 1) =
+    retired_near earlier (w.ruu - 1) timed.order in
+    let close : last_of earlier < dispatch + size = omega (arith, room, before, soon, wide, widths.ruu.0) in
     record {
-      order = dispatched_before w earlier m fetch;
+      order = before;
       after = omega (arith, waits.after, issues.0);
       near = omega (arith, waits.soon, issues.1, close, wide, widths.ruu.0);
       close = close;
@@ -155,6 +157,7 @@ kept_next w earlier m f g widths marked few kept noted =
       stores = rw noted.stores (stored_next earlier f.stores.items x kept.stores_length kept.stores);
       stores_length = rw noted.stores (stores_size f.stores.items x kept.stores_length);
       slots = rw (noted.slots, noted.start) (issued_kept earlier x f.slots.items f.start some kept.slots next);
+      power = rw (noted.slots, slots_size f.slots.items x.mark.class (f.start + x.issue)) kept.power;
       wide = rw (noted.slots, slots_size f.slots.items x.mark.class (f.start + x.issue)) kept.wide;
       start = rw noted.start kept.start;
     }
@@ -179,6 +182,7 @@ kept_flight w earlier f kept =
       accesses = ap (λ b. b.capacity) kept.accesses;
       registers = kept.registers_length;
       stores = kept.stores_length;
+      power = kept.power;
       wide = kept.wide;
       small = rw rows (each_take (IsWithin (2 ^ 32)) (depth w) earlier each);
       small_accesses = rw accessed (each_take (IsWithin (2 ^ 32)) w.lsq (memory_ones earlier)

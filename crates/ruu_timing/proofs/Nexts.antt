@@ -136,6 +136,13 @@ one_less : (found : Option Timed) (n : ℕ) → 0 < n → time_of (λ x. x.retir
 one_less None n some le = some
 one_less (Some x) n some le = omega arith
 
+-- dispatch is in order
+pub dispatched_before :
+    (w : Widths) (earlier : List Timed) (m : Marked) (fetch : ℕ)
+    → time_of (λ x. x.dispatch) (back earlier 1) ≤ dispatch_of w earlier m fetch
+unfolding dispatch_of
+dispatched_before w earlier m fetch = omega arith
+
 pub next_times :
     (w : Widths) (earlier : List Timed) (m : Marked) → AreWidths w → IsMarked m → AreTimed earlier
     → IsWithin (timed_of w earlier m).retirement (timed_of w earlier m) × IsRetiredAfter earlier (timed_of w earlier m)
@@ -170,6 +177,8 @@ next_times w earlier m widths marked timed =
         soon = omega (arith, dispatched.soon, waited.soon, issued.1, retired_then.soon);
         wide = omega arith;
         complete = omega (arith, retired_then.after);
+        order = dispatched_before w earlier m fetch;
+        near = omega (arith, waited.soon, issued.1, retired_then.soon);
       },
     )
 

@@ -1,5 +1,5 @@
 -- How many instructions issue in each cycle, in a table with fewer places than there are cycles.
-use Rattle.std.specs.Prelude.{◌≡◌, ◌<◌, ◌≤◌, ℕ, ◌+◌, ◌%◌, ◌==◌, ◌&&◌, nat_lt, if◌then◌else◌, Bool, List, length, get_or, replicate, slice_set}
+use Rattle.std.specs.Prelude.{◌≡◌, ◌<◌, ◌≤◌, ℕ, ◌+◌, ◌%◌, ◌^◌, ◌==◌, ◌&&◌, nat_lt, if◌then◌else◌, Bool, List, length, get_or, replicate, slice_set}
 use Rattle.rv_isa.specs.declared.roles.Class.{Class}
 use Rattle.hierarchy.specs.declared.widths.Widths.{Widths}
 use Rattle.ruu_timing.specs.declared.issues.Slot.{Slot}
@@ -12,6 +12,11 @@ use Rattle.ruu_timing.specs.Rows.{Each, last_of}
 -- a cycle in which nothing issues
 abbrev pub idle : ℕ → Slot
 idle t = record { cycle = t; issued = 0; alike = replicate 7 0 }
+
+-- a power of two
+pub record IsPower (n : ℕ) : Type 0 where
+  pub exponent : ℕ
+  pub is : n ≡ 2 ^ exponent
 
 abbrev pub place_of : List Slot → ℕ → ℕ
 place_of slots t = t % length slots

@@ -9,7 +9,7 @@ use Rattle.ruu_timing.specs.declared.timed.Timed.{Timed}
 use Rattle.ruu_timing.specs.declared.flight.Flight.{Flight}
 use Rattle.ruu_timing.specs.declared.issues.Slot.{Slot}
 use Rattle.ruu_timing.specs.Class.{is_load, is_store, is_ecall}
-use Rattle.ruu_timing.specs.Issues.{HasIssued, issued_in}
+use Rattle.ruu_timing.specs.Issues.{HasIssued, IsPower, issued_in}
 use Rattle.ruu_timing.specs.Rows.{Each, IsWithin, AreTimed, last_of}
 use Rattle.ruu_timing.specs.Times.{back, time_of, memory_ones, written, stored, stores_to}
 
@@ -67,7 +67,7 @@ depth w = max w.ruu 32
 -- the cycles that the table of issues tells apart: more than all instructions of the register
 -- update unit take one after another
 abbrev pub span : Widths → ℕ
-span w = 4096 * w.ruu
+span w = 1280 * w.ruu
 
 -- the parts have their sizes, and no place of the table of issues is behind the last retirement
 pub record IsFlight (w : Widths) (f : Flight) : Type 0 where
@@ -75,6 +75,7 @@ pub record IsFlight (w : Widths) (f : Flight) : Type 0 where
   pub accesses : f.accesses.capacity ≡ w.lsq
   pub registers : length f.registers.items ≡ 256
   pub stores : length f.stores.items ≡ 256
+  pub power : IsPower (length f.slots.items)
   pub wide : span w ≤ length f.slots.items
   pub small : Each (IsWithin (2 ^ 32)) f.rows.items
   pub small_accesses : Each (IsWithin (2 ^ 32)) f.accesses.items
@@ -93,6 +94,7 @@ pub record IsKept (w : Widths) (earlier : List Timed) (f : Flight) : Type 0 wher
   pub stores : HasStored earlier f.stores.items
   pub stores_length : length f.stores.items ≡ 256
   pub slots : HasIssued earlier f.slots.items f.start
+  pub power : IsPower (length f.slots.items)
   pub wide : span w ≤ length f.slots.items
   pub start : f.start ≤ 2 ^ 41
 

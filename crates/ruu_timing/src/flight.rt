@@ -11,7 +11,7 @@ ghost use Rattle.ruu_timing.specs.Rows.{Each, IsWithin, last_of};
 ghost use Rattle.ruu_timing.specs.Times.{timed_of, times};
 
 use crate::class::{accesses_memory, is_load, is_store};
-use crate::issues::{Slot, all_idle, first_room, issue_in, next_start};
+use crate::issues::{Slot, first_room, issue_in, next_start, table};
 use crate::latest::{dispatch_of, fetch_of, retirement_back, retirement_of, stored};
 use crate::tables::{complete, complete_store, completed, latest_store};
 use crate::timed::Timed;
@@ -200,7 +200,7 @@ impl Flight {
             accesses: HeapCircularBuffer::with_capacity(alloc, w.lsq as usize)?,
             registers: vec![in alloc; 0; 256]?,
             stores: vec![in alloc; 0; 256]?,
-            slots: all_idle(alloc, 4096 * w.ruu as usize)?,
+            slots: table(alloc, w.ruu)?,
             start: 0,
         })
     }

@@ -1,8 +1,8 @@
 //! How many instructions issue in each cycle.
-ghost use Rattle.std.specs.Prelude.{◌≡◌, ◌+◌, ◌^◌, ◌<◌, ◌≤◌, length, max, replicate, IfOk, true};
+ghost use Rattle.std.specs.Prelude.{◌≡◌, ◌+◌, ◌*◌, ◌^◌, ◌<◌, ◌≤◌, length, max, replicate, IfOk, true};
 ghost use Rattle.hierarchy.specs.Widths.{AreWidths};
 ghost use Rattle.ruu_timing.specs.Class.{number_of, limit_of};
-ghost use Rattle.ruu_timing.specs.Issues.{idle, place_of, slot_at, has_room, issued_in};
+ghost use Rattle.ruu_timing.specs.Issues.{IsPower, idle, place_of, slot_at, has_room, issued_in};
 ghost use Rattle.ruu_timing.specs.Laws.{IsFirst};
 ghost use Rattle.ruu_timing.specs.Rows.{Each};
 
@@ -30,16 +30,17 @@ fn idle(cycle: u64) -> Slot
     }
 }
 
+#[tactic(auto, using(crate::proofs::IssueTable::power_some, crate::proofs::IssueTable::masked))]
 fn place_of(slots: &[Slot], t: u64) -> usize
-    requires { 0 < length slots.now }
+    requires { IsPower (length slots.now) }
     ensures value { result ≡ place_of slots.now t }
     ensures within { result < length slots.now }
 {
-    (t % slots.len() as u64) as usize
+    (t & (slots.len() as u64 - 1)) as usize
 }
 
 fn slot_at(slots: &[Slot], t: u64) -> Slot
-    requires { 0 < length slots.now }
+    requires { IsPower (length slots.now) }
     ensures { result ≡ slot_at slots.now t }
 {
     let slot = slots[place_of(slots, t)];
@@ -49,7 +50,7 @@ fn slot_at(slots: &[Slot], t: u64) -> Slot
 /// Whether one more instruction of a class can issue in a cycle.
 #[tactic(auto, unfolding(crate::specs::Issues::has_room))]
 pub(crate) fn has_room(w: &Widths, slots: &[Slot], class: Class, t: u64) -> bool
-    requires { 0 < length slots.now }
+    requires { IsPower (length slots.now) }
     ensures { result ≡ has_room w.now slots.now class t }
 {
     let slot = slot_at(slots, t);
@@ -60,7 +61,7 @@ pub(crate) fn has_room(w: &Widths, slots: &[Slot], class: Class, t: u64) -> bool
 /// Notes one more instruction of a class that issues in a cycle.
 pub(crate) fn issue_in(w: &Widths, slots: &mut [Slot], class: Class, t: u64)
     requires widths { AreWidths w.now }
-    requires some { 0 < length slots.old }
+    requires power { IsPower (length slots.old) }
     requires room { has_room w.now slots.old class t ≡ true }
     ensures { slots.new ≡ issued_in slots.old class t }
 {
@@ -75,7 +76,7 @@ pub(crate) fn issue_in(w: &Widths, slots: &mut [Slot], class: Class, t: u64)
 /// last one in which anything issues.
 pub(crate) fn first_room(w: &Widths, slots: &[Slot], class: Class, ready: u64, last: u64) -> u64
     requires widths { AreWidths w.now }
-    requires some { 0 < length slots.now }
+    requires power { IsPower (length slots.now) }
     requires before { Each (λ slot. slot.cycle ≤ last) slots.now }
     requires small { (ready ≤ 2 ^ 50) × (last ≤ 2 ^ 50) }
     ensures value { IsFirst (has_room w.now slots.now class) ready result }
@@ -88,8 +89,26 @@ pub(crate) fn first_room(w: &Widths, slots: &[Slot], class: Class, ready: u64, l
     t
 }
 
+/// As many places as a table needs: a power of two, from 1280 for each place of the register update
+/// unit.
+fn size_for(ruu: u32) -> usize
+    requires { ruu ≤ 256 }
+    ensures power { IsPower result }
+    ensures wide { 1280 * ruu ≤ result }
+{
+    if ruu <= 51 {
+        1 << 16
+    } else if ruu <= 102 {
+        1 << 17
+    } else if ruu <= 204 {
+        1 << 18
+    } else {
+        1 << 19
+    }
+}
+
 /// A table of so many places, in which nothing issues.
-pub(crate) fn all_idle(alloc: Global, size: usize) -> Result<Vec<Slot>, NoMemory>
+fn all_idle(alloc: Global, size: usize) -> Result<Vec<Slot>, NoMemory>
     ensures { IfOk result (λ slots. slots.items ≡ replicate size (idle 0)) }
 {
     let mut slots = Vec::with_capacity(alloc, size)?;
@@ -97,6 +116,17 @@ pub(crate) fn all_idle(alloc: Global, size: usize) -> Result<Vec<Slot>, NoMemory
         slots.push_reserved(idle(0));
     }
     Ok(slots)
+}
+
+/// A table for a register update unit of so many places, in which nothing issues.
+pub(crate) fn table(alloc: Global, ruu: u32) -> Result<Vec<Slot>, NoMemory>
+    requires { ruu ≤ 256 }
+    ensures power { IfOk result (λ slots. IsPower (length slots.items)) }
+    ensures wide { IfOk result (λ slots. 1280 * ruu ≤ length slots.items) }
+    ensures before { IfOk result (λ slots. Each (λ slot. slot.cycle ≤ 0) slots.items) }
+    ensures sevens { IfOk result (λ slots. Each (λ slot. length slot.alike ≡ 7) slots.items) }
+{
+    all_idle(alloc, size_for(ruu))
 }
 
 /// The first cycle of a further trace: behind all that the table knows of, so that the table need

@@ -1,7 +1,7 @@
 use Rattle.std.proofs.Common.{◌≡◌, ◌+◌, ◌<◌, ◌≤◌, ◌∙◌, true, false, sym, arith, inl, inr}
 use Rattle.std.proofs.lemmas.Bool.{cases_lt, false≢true}
 use Rattle.ruu_timing.specs.Issues.{has_room}
-use Rattle.ruu_timing.proofs.IssueTable.{room_behind, none_more}
+use Rattle.ruu_timing.proofs.IssueTable.{power_some, room_behind, none_more}
 use Rattle.ruu_timing.proofs.issues.first_room.Goals as goal
 
 pub wait-preserved : goal.wait-preserved
@@ -11,7 +11,7 @@ wait-preserved c =
     let end : c.wait.t ≤ c.args.last =
     elim (cases_lt c.args.last c.wait.t) [
       | inl lt ↦ absurd (false≢true (sym none ∙ room_behind c.args.w.now c.args.slots.now c.args.class c.args.last c.wait.t
-          c.requires.widths c.requires.some c.requires.before lt))
+          c.requires.widths (power_some _ c.requires.power) c.requires.before lt))
       | inr ge ↦ ge
     ] in
     record {
