@@ -35,13 +35,13 @@ masked t n power = rw power.is (and_mask t power.exponent)
 
 -- where there is room, the counters are far from their end
 pub room_small :
-    (w : Widths) (slots : List Slot) (class : Class) (t : ℕ) → AreWidths w → has_room w slots class t ≡ true
-    → ((slot_at slots t).issued < 8) × (alike_in (slot_at slots t) class < 8)
+    (w : Widths) (slots : List Slot) (start : ℕ) (class : Class) (t : ℕ) → AreWidths w → has_room w slots start class t ≡ true
+    → ((slot_at slots start t).issued < 8) × (alike_in (slot_at slots start t) class < 8)
 unfolding has_room
-room_small w slots class t widths room =
-    let parts = and_parts (nat_lt (slot_at slots t).issued w.issue) (nat_lt (alike_in (slot_at slots t) class) (limit_of w class)) room in
-    let wide : (slot_at slots t).issued < w.issue = ltb-true _ _ parts.0 in
-    let limited : alike_in (slot_at slots t) class < limit_of w class = ltb-true _ _ parts.1 in
+room_small w slots start class t widths room =
+    let parts = and_parts (nat_lt (slot_at slots start t).issued w.issue) (nat_lt (alike_in (slot_at slots start t) class) (limit_of w class)) room in
+    let wide : (slot_at slots start t).issued < w.issue = ltb-true _ _ parts.0 in
+    let limited : alike_in (slot_at slots start t) class < limit_of w class = ltb-true _ _ parts.1 in
     (omega (arith, widths.issue.1), omega (arith, limit_small w class widths))
 
 number_below : (class : Class) → number_of class < 7
@@ -94,38 +94,38 @@ chosen_idle slot t differs = rw (ne_eqb slot.cycle t differs) refl
 chosen_same : (slot : Slot) (t : ℕ) → slot.cycle ≡ t → (if slot.cycle == t then slot else idle t) ≡ slot
 chosen_same slot t e = rw (eq-eqb slot.cycle t e) refl
 
-cycle_at : (slots : List Slot) (t : ℕ) → (slot_at slots t).cycle ≡ t
-cycle_at slots t = chosen_cycle (get_or slots (place_of slots t) (idle t)) t
+cycle_at : (slots : List Slot) (start t : ℕ) → (slot_at slots start t).cycle ≡ start + t
+cycle_at slots start t = chosen_cycle (get_or slots (place_of slots t) (idle (start + t))) (start + t)
 
 -- the table with one more, at its cycle and at another one
 pub at_same :
-    (slots : List Slot) (class : Class) (t : ℕ) → 0 < length slots
-    → slot_at (issued_in slots class t) t ≡ one_more class (slot_at slots t)
-at_same slots class t some =
-    let more : Slot = one_more class (slot_at slots t) in
-    let place : place_of (issued_in slots class t) t ≡ place_of slots t =
+    (slots : List Slot) (start : ℕ) (class : Class) (t : ℕ) → 0 < length slots
+    → slot_at (issued_in slots start class t) start t ≡ one_more class (slot_at slots start t)
+at_same slots start class t some =
+    let more : Slot = one_more class (slot_at slots start t) in
+    let place : place_of (issued_in slots start class t) t ≡ place_of slots t =
     ap (λ n. t % n) (length-set slots (place_of slots t) more) in
-    let found : get_or (issued_in slots class t) (place_of slots t) (idle t) ≡ more =
-    get_or-set_same slots (place_of slots t) more (idle t) (mod_below t (length slots) some) in
-    rw (place, found) (chosen_same more t (cycle_at slots t))
+    let found : get_or (issued_in slots start class t) (place_of slots t) (idle (start + t)) ≡ more =
+    get_or-set_same slots (place_of slots t) more (idle (start + t)) (mod_below t (length slots) some) in
+    rw (place, found) (chosen_same more (start + t) (cycle_at slots start t))
 
 pub at_other :
-    (slots : List Slot) (class : Class) (t u : ℕ) → 0 < length slots → u ≢ t
-    → (place_of slots u ≡ place_of slots t → (get_or slots (place_of slots u) (idle u)).cycle ≢ u)
-    → slot_at (issued_in slots class t) u ≡ slot_at slots u
-at_other slots class t u some differs taken =
-    let more : Slot = one_more class (slot_at slots t) in
-    let place : place_of (issued_in slots class t) u ≡ place_of slots u =
+    (slots : List Slot) (start : ℕ) (class : Class) (t u : ℕ) → 0 < length slots → u ≢ t
+    → (place_of slots u ≡ place_of slots t → (get_or slots (place_of slots u) (idle (start + u))).cycle ≢ start + u)
+    → slot_at (issued_in slots start class t) start u ≡ slot_at slots start u
+at_other slots start class t u some differs taken =
+    let more : Slot = one_more class (slot_at slots start t) in
+    let place : place_of (issued_in slots start class t) u ≡ place_of slots u =
     ap (λ n. u % n) (length-set slots (place_of slots t) more) in
     elim (cases_eq (place_of slots u) (place_of slots t)) [
       | inl e ↦
-          let found : get_or (issued_in slots class t) (place_of slots u) (idle u) ≡ more =
-          rw e (get_or-set_same slots (place_of slots t) more (idle u) (mod_below t (length slots) some)) in
-          let gone : slot_at (issued_in slots class t) u ≡ idle u =
-          rw (place, found) (chosen_idle more u (λ same. differs (sym same ∙ cycle_at slots t))) in
-          gone ∙ sym (chosen_idle (get_or slots (place_of slots u) (idle u)) u (taken e))
+          let found : get_or (issued_in slots start class t) (place_of slots u) (idle (start + u)) ≡ more =
+          rw e (get_or-set_same slots (place_of slots t) more (idle (start + u)) (mod_below t (length slots) some)) in
+          let gone : slot_at (issued_in slots start class t) start u ≡ idle (start + u) =
+          rw (place, found) (chosen_idle more (start + u) (λ same. differs (omega (arith, same, cycle_at slots start t)))) in
+          gone ∙ sym (chosen_idle (get_or slots (place_of slots u) (idle (start + u))) (start + u) (taken e))
       | inr other ↦
-          rw (place, get_or-set_other slots (place_of slots t) (place_of slots u) more (idle u) other) refl
+          rw (place, get_or-set_other slots (place_of slots t) (place_of slots u) more (idle (start + u)) other) refl
     ]
 
 -- what holds of each holds of one that is read, and stays so where one is put
@@ -140,13 +140,13 @@ each_set P [] i y each there = tt
 each_set P (x ∷ xs) zero y each there = (there, each.1)
 each_set P (x ∷ xs) (suc i) y each there = (each.0, each_set P xs i y each.1 there)
 
-seven_at : (slots : List Slot) (t : ℕ) → 0 < length slots → Each (λ slot. length slot.alike ≡ 7) slots → length (slot_at slots t).alike ≡ 7
-seven_at slots t some each =
-    let slot : Slot = get_or slots (place_of slots t) (idle t) in
-    let there : length slot.alike ≡ 7 = each_get_or (λ s. length s.alike ≡ 7) slots (place_of slots t) (idle t) (mod_below t (length slots) some) each in
-    elim (cases_eq slot.cycle t) [
-      | inl e ↦ rw (chosen_same slot t e) there
-      | inr other ↦ rw (chosen_idle slot t other) refl
+seven_at : (slots : List Slot) (start t : ℕ) → 0 < length slots → Each (λ slot. length slot.alike ≡ 7) slots → length (slot_at slots start t).alike ≡ 7
+seven_at slots start t some each =
+    let slot : Slot = get_or slots (place_of slots t) (idle (start + t)) in
+    let there : length slot.alike ≡ 7 = each_get_or (λ s. length s.alike ≡ 7) slots (place_of slots t) (idle (start + t)) (mod_below t (length slots) some) each in
+    elim (cases_eq slot.cycle (start + t)) [
+      | inl e ↦ rw (chosen_same slot (start + t) e) there
+      | inr other ↦ rw (chosen_idle slot (start + t) other) refl
     ]
 
 -- the counters of a cycle with one more
@@ -187,31 +187,29 @@ pub record IsNext (earlier : List Timed) (x : Timed) (size : ℕ) : Type 0 where
 other_kept :
     (earlier : List Timed) (x : Timed) (slots : List Slot) (start t : ℕ) → 0 < length slots
     → HasIssued earlier slots start → IsNext earlier x (length slots) → x.dispatch < t → t ≢ x.issue
-    → slot_at (issued_in slots x.mark.class (start + x.issue)) (start + t) ≡ slot_at slots (start + t)
+    → slot_at (issued_in slots start x.mark.class x.issue) start t ≡ slot_at slots start t
 other_kept earlier x slots start t some has next behind differs =
-    at_other slots x.mark.class (start + x.issue) (start + t) some (λ e. differs (omega (arith, e)))
+    at_other slots start x.mark.class x.issue t some differs
     (λ e same.
-        let before : (get_or slots (place_of slots (start + t)) (idle (start + t))).cycle ≤ start + last_of earlier =
-        each_get_or (λ s. s.cycle ≤ start + last_of earlier) slots (place_of slots (start + t)) (idle (start + t))
-        (mod_below (start + t) (length slots) some) has.before in
-        let one : start + t ≡ start + x.issue =
-        apart_both (length slots) (start + x.dispatch) (start + t) (start + x.issue)
-        (omega arith) (omega (arith, before, same, next.close)) (omega (arith, next.after)) (omega (arith, next.near)) e in
-        differs (omega (arith, one)))
+        let before : (get_or slots (place_of slots t) (idle (start + t))).cycle ≤ start + last_of earlier =
+        each_get_or (λ s. s.cycle ≤ start + last_of earlier) slots (place_of slots t) (idle (start + t))
+        (mod_below t (length slots) some) has.before in
+        differs (apart_both (length slots) x.dispatch t x.issue
+        behind (omega (arith, before, same, next.close)) next.after next.near e))
 
 count_kept :
     (earlier : List Timed) (x : Timed) (slots : List Slot) (start t : ℕ) → 0 < length slots
     → HasIssued earlier slots start → IsNext earlier x (length slots) → x.dispatch < t
-    → (slot_at (issued_in slots x.mark.class (start + x.issue)) (start + t)).issued
+    → (slot_at (issued_in slots start x.mark.class x.issue) start t).issued
     ≡ length (filter (λ y. issues_at t y) (x ∷ earlier))
 count_kept earlier x slots start t some has next behind =
-    let old : (slot_at slots (start + t)).issued ≡ length (filter (λ y. issues_at t y) earlier) =
+    let old : (slot_at slots start t).issued ≡ length (filter (λ y. issues_at t y) earlier) =
     has.issued t (omega (arith, next.order)) in
     let more = filter_more (λ y. issues_at t y) x earlier in
     elim (cases_eq x.issue t) [
       | inl e ↦
-          let here : slot_at (issued_in slots x.mark.class (start + x.issue)) (start + t) ≡ one_more x.mark.class (slot_at slots (start + t)) =
-          rw (← e) (at_same slots x.mark.class (start + x.issue) some) in
+          let here : slot_at (issued_in slots start x.mark.class x.issue) start t ≡ one_more x.mark.class (slot_at slots start t) =
+          rw (← e) (at_same slots start x.mark.class x.issue some) in
           rw (here, more, eq-eqb x.issue t e) (omega (arith, old))
       | inr other ↦
           rw (other_kept earlier x slots start t some has next behind (λ e. other (sym e)), more, ne_eqb x.issue t other) old
@@ -220,18 +218,18 @@ count_kept earlier x slots start t some has next behind =
 alike_kept :
     (earlier : List Timed) (x : Timed) (slots : List Slot) (start t : ℕ) (class : Class) → 0 < length slots
     → HasIssued earlier slots start → IsNext earlier x (length slots) → x.dispatch < t
-    → alike_in (slot_at (issued_in slots x.mark.class (start + x.issue)) (start + t)) class
+    → alike_in (slot_at (issued_in slots start x.mark.class x.issue) start t) class
     ≡ length (filter (λ y. issues_alike class t y) (x ∷ earlier))
 alike_kept earlier x slots start t class some has next behind =
-    let old : alike_in (slot_at slots (start + t)) class ≡ length (filter (λ y. issues_alike class t y) earlier) =
+    let old : alike_in (slot_at slots start t) class ≡ length (filter (λ y. issues_alike class t y) earlier) =
     has.alike t class (omega (arith, next.order)) in
     let more = filter_more (λ y. issues_alike class t y) x earlier in
     elim (cases_eq x.issue t) [
       | inl e ↦
-          let here : slot_at (issued_in slots x.mark.class (start + x.issue)) (start + t) ≡ one_more x.mark.class (slot_at slots (start + t)) =
-          rw (← e) (at_same slots x.mark.class (start + x.issue) some) in
-          let seven = seven_at slots (start + t) some has.sevens in
-          rw (here, more, eq-eqb x.issue t e, alike_more (slot_at slots (start + t)) x.mark.class class seven, ← old) refl
+          let here : slot_at (issued_in slots start x.mark.class x.issue) start t ≡ one_more x.mark.class (slot_at slots start t) =
+          rw (← e) (at_same slots start x.mark.class x.issue some) in
+          let seven = seven_at slots start t some has.sevens in
+          rw (here, more, eq-eqb x.issue t e, alike_more (slot_at slots start t) x.mark.class class seven, ← old) refl
       | inr other ↦
           rw (other_kept earlier x slots start t some has next behind (λ e. other (sym e)), more, ne_eqb x.issue t other) old
     ]
@@ -243,20 +241,20 @@ each_weaker P Q more (x ∷ xs) each = (more x each.0, each_weaker P Q more xs e
 pub issued_kept :
     (earlier : List Timed) (x : Timed) (slots : List Slot) (start : ℕ) → 0 < length slots
     → HasIssued earlier slots start → IsNext earlier x (length slots)
-    → HasIssued (x ∷ earlier) (issued_in slots x.mark.class (start + x.issue)) start
+    → HasIssued (x ∷ earlier) (issued_in slots start x.mark.class x.issue) start
 issued_kept earlier x slots start some has next =
-    let t : ℕ = start + x.issue in
-    let more : Slot = one_more x.mark.class (slot_at slots t) in
+    let t : ℕ = x.issue in
+    let more : Slot = one_more x.mark.class (slot_at slots start t) in
     record {
       issued = λ u behind. count_kept earlier x slots start u some has next behind;
       alike = λ u class behind. alike_kept earlier x slots start u class some has next behind;
       before = each_set (λ s. s.cycle ≤ start + x.retirement) slots (place_of slots t) more
           (each_weaker (λ s. s.cycle ≤ start + last_of earlier) (λ s. s.cycle ≤ start + x.retirement)
               (λ s le. omega (arith, le, next.rises)) slots has.before)
-          (omega (arith, cycle_at slots t, next.issued));
+          (omega (arith, cycle_at slots start t, next.issued));
       sevens = each_set (λ s. length s.alike ≡ 7) slots (place_of slots t) more has.sevens
-          (length-set (slot_at slots t).alike (number_of x.mark.class) (alike_in (slot_at slots t) x.mark.class + 1)
-              ∙ seven_at slots t some has.sevens);
+          (length-set (slot_at slots start t).alike (number_of x.mark.class) (alike_in (slot_at slots start t) x.mark.class + 1)
+              ∙ seven_at slots start t some has.sevens);
     }
 
 -- at the start of a trace no cycle is taken
@@ -264,13 +262,12 @@ pub none_issued :
     (slots : List Slot) (start : ℕ) → 0 < length slots → Each (λ s. s.cycle ≤ start) slots → Each (λ s. length s.alike ≡ 7) slots
     → HasIssued [] slots start
 none_issued slots start some before sevens =
-    let gone : (t : ℕ) → 0 < t → slot_at slots (start + t) ≡ idle (start + t) =
+    let gone : (t : ℕ) → 0 < t → slot_at slots start t ≡ idle (start + t) =
     λ t late.
-        chosen_idle (get_or slots (place_of slots (start + t)) (idle (start + t))) (start + t)
+        chosen_idle (get_or slots (place_of slots t) (idle (start + t))) (start + t)
         (λ e.
-            let old : (get_or slots (place_of slots (start + t)) (idle (start + t))).cycle ≤ start =
-            each_get_or (λ s. s.cycle ≤ start) slots (place_of slots (start + t)) (idle (start + t))
-            (mod_below (start + t) (length slots) some) before in
+            let old : (get_or slots (place_of slots t) (idle (start + t))).cycle ≤ start =
+            each_get_or (λ s. s.cycle ≤ start) slots (place_of slots t) (idle (start + t)) (mod_below t (length slots) some) before in
             omega (arith, old, e, late)) in
     record {
       issued = λ t late. rw (gone t late) refl;
@@ -283,21 +280,21 @@ none_issued slots start some before sevens =
 pub same_slot :
     (w : Widths) (earlier : List Timed) (slots : List Slot) (start : ℕ) (class : Class) (t : ℕ)
     → HasIssued earlier slots start → dispatched earlier < t
-    → has_room w slots class (start + t) ≡ has_slot w earlier class t
+    → has_room w slots start class t ≡ has_slot w earlier class t
 unfolding has_room has_slot
 same_slot w earlier slots start class t has late = rw (has.issued t late, has.alike t class late) refl
 
 -- behind the last cycle of the table each has room
 pub room_behind :
-    (w : Widths) (slots : List Slot) (class : Class) (last t : ℕ) → AreWidths w → 0 < length slots
-    → Each (λ s. s.cycle ≤ last) slots → last < t → has_room w slots class t ≡ true
+    (w : Widths) (slots : List Slot) (start : ℕ) (class : Class) (last t : ℕ) → AreWidths w → 0 < length slots
+    → Each (λ s. s.cycle ≤ start + last) slots → last < t → has_room w slots start class t ≡ true
 unfolding has_room
-room_behind w slots class last t widths some before late =
-    let gone : slot_at slots t ≡ idle t =
-    chosen_idle (get_or slots (place_of slots t) (idle t)) t
+room_behind w slots start class last t widths some before late =
+    let gone : slot_at slots start t ≡ idle (start + t) =
+    chosen_idle (get_or slots (place_of slots t) (idle (start + t))) (start + t)
     (λ e.
-        let old : (get_or slots (place_of slots t) (idle t)).cycle ≤ last =
-        each_get_or (λ s. s.cycle ≤ last) slots (place_of slots t) (idle t) (mod_below t (length slots) some) before in
+        let old : (get_or slots (place_of slots t) (idle (start + t))).cycle ≤ start + last =
+        each_get_or (λ s. s.cycle ≤ start + last) slots (place_of slots t) (idle (start + t)) (mod_below t (length slots) some) before in
         omega (arith, old, e, late)) in
     let wide : nat_lt 0 w.issue ≡ true = lt-ltb 0 w.issue (omega (arith, widths.issue.0)) in
     let limited : nat_lt 0 (limit_of w class) ≡ true = lt-ltb 0 (limit_of w class) (limit_positive w class widths) in
@@ -305,10 +302,10 @@ room_behind w slots class last t widths some before late =
 
 -- one more cycle without room
 pub none_more :
-    (w : Widths) (slots : List Slot) (class : Class) (ready t : ℕ)
-    → ((k : ℕ) → ready ≤ k → k < t → has_room w slots class k ≡ false) → has_room w slots class t ≡ false
-    → (k : ℕ) → ready ≤ k → k < t + 1 → has_room w slots class k ≡ false
-none_more w slots class ready t none here k from below =
+    (w : Widths) (slots : List Slot) (start : ℕ) (class : Class) (ready t : ℕ)
+    → ((k : ℕ) → ready ≤ k → k < t → has_room w slots start class k ≡ false) → has_room w slots start class t ≡ false
+    → (k : ℕ) → ready ≤ k → k < t + 1 → has_room w slots start class k ≡ false
+none_more w slots start class ready t none here k from below =
     elim (cases_lt k t) [
       | inl lt ↦ none k from lt
       | inr ge ↦ let same : k ≡ t = omega arith in rw same here

@@ -211,15 +211,13 @@ ready_same w earlier f m fetch widths kept first second =
 pub issue_same :
     (w : Widths) (earlier : List Timed) (slots : List Slot) (start : ℕ) (class : Class) (ready t : ℕ)
     → AreWidths w → AreTimed earlier → HasIssued earlier slots start → dispatched earlier < ready
-    → IsFirst (has_room w slots class) (start + ready) (start + t) → issue_of w earlier class ready ≡ t
+    → IsFirst (has_room w slots start class) ready t → issue_of w earlier class ready ≡ t
 issue_same w earlier slots start class ready t widths timed has late is =
-    let from : ready ≤ t = omega (arith, is.start) in
     first_is_issue w earlier class ready t widths timed (record {
-      start = from;
-      passes = sym (same_slot w earlier slots start class t has (omega (arith, from, late))) ∙ is.passes;
+      start = is.start;
+      passes = sym (same_slot w earlier slots start class t has (omega (arith, is.start, late))) ∙ is.passes;
       first = λ k after below.
-          sym (same_slot w earlier slots start class k has (omega (arith, after, late)))
-              ∙ is.first (start + k) (omega (arith, after)) (omega (arith, below));
+          sym (same_slot w earlier slots start class k has (omega (arith, after, late))) ∙ is.first k after below;
     })
 
 -- the times from what is kept are those by the definition
@@ -229,7 +227,7 @@ pub timed_is :
     → fetch ≡ fetch_of w f.rows.items m
     → dispatch ≡ dispatch_from w f.rows.items f.accesses.items m fetch
     → ready ≡ ready_from f m dispatch
-    → IsFirst (has_room w f.slots.items m.class) (f.start + ready) (f.start + issue)
+    → IsFirst (has_room w f.slots.items f.start m.class) ready issue
     → completion ≡ issue + m.latency
     → retirement ≡ retirement_of w f.rows.items completion
     → record {

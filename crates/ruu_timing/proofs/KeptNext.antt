@@ -137,8 +137,8 @@ stores_size stores x size = go (is_store x.mark.class) x.mark.word
     go true None = size
     go true (Some k) = length-set stores (k % 256) (max (latest_store stores k) x.completion) ∙ size
 
-slots_size : (slots : List Slot) (class : Class) (t : ℕ) → length (issued_in slots class t) ≡ length slots
-slots_size slots class t = length-set slots (place_of slots t) (one_more class (slot_at slots t))
+slots_size : (slots : List Slot) (start : ℕ) (class : Class) (t : ℕ) → length (issued_in slots start class t) ≡ length slots
+slots_size slots start class t = length-set slots (place_of slots t) (one_more class (slot_at slots start t))
 
 pub kept_next :
     (w : Widths) (earlier : List Timed) (m : Marked) (f g : Flight) → AreWidths w → IsMarked m → length earlier < 110000
@@ -157,8 +157,8 @@ kept_next w earlier m f g widths marked few kept noted =
       stores = rw noted.stores (stored_next earlier f.stores.items x kept.stores_length kept.stores);
       stores_length = rw noted.stores (stores_size f.stores.items x kept.stores_length);
       slots = rw (noted.slots, noted.start) (issued_kept earlier x f.slots.items f.start some kept.slots next);
-      power = rw (noted.slots, slots_size f.slots.items x.mark.class (f.start + x.issue)) kept.power;
-      wide = rw (noted.slots, slots_size f.slots.items x.mark.class (f.start + x.issue)) kept.wide;
+      power = rw (noted.slots, slots_size f.slots.items f.start x.mark.class x.issue) kept.power;
+      wide = rw (noted.slots, slots_size f.slots.items f.start x.mark.class x.issue) kept.wide;
       start = rw noted.start kept.start;
     }
 

@@ -21,19 +21,20 @@ pub record IsPower (n : ℕ) : Type 0 where
 abbrev pub place_of : List Slot → ℕ → ℕ
 place_of slots t = t % length slots
 
--- a place that is taken by another cycle says nothing of this one
-abbrev pub slot_at : List Slot → ℕ → Slot
-slot_at slots t =
-    let slot = get_or slots (place_of slots t) (idle t) in
-    if slot.cycle == t then slot else idle t
+-- the cycles of a trace are numbered from `start` on, so that what a place tells of an earlier trace
+-- is known as such. A place that is taken by another cycle says nothing of this one.
+abbrev pub slot_at : List Slot → ℕ → ℕ → Slot
+slot_at slots start t =
+    let slot = get_or slots (place_of slots t) (idle (start + t)) in
+    if slot.cycle == start + t then slot else idle (start + t)
 
 -- how many of the class issue in the cycle
 abbrev pub alike_in : Slot → Class → ℕ
 alike_in slot class = get_or slot.alike (number_of class) 0
 
-unfoldable pub has_room : Widths → List Slot → Class → ℕ → Bool
-has_room w slots class t =
-    nat_lt (slot_at slots t).issued w.issue && nat_lt (alike_in (slot_at slots t) class) (limit_of w class)
+unfoldable pub has_room : Widths → List Slot → ℕ → Class → ℕ → Bool
+has_room w slots start class t =
+    nat_lt (slot_at slots start t).issued w.issue && nat_lt (alike_in (slot_at slots start t) class) (limit_of w class)
 
 -- one more
 abbrev pub one_more : Class → Slot → Slot
@@ -43,18 +44,18 @@ one_more class slot = record {
   alike = slice_set slot.alike (number_of class) (alike_in slot class + 1);
 }
 
-abbrev pub issued_in : List Slot → Class → ℕ → List Slot
-issued_in slots class t = slice_set slots (place_of slots t) (one_more class (slot_at slots t))
+abbrev pub issued_in : List Slot → ℕ → Class → ℕ → List Slot
+issued_in slots start class t = slice_set slots (place_of slots t) (one_more class (slot_at slots start t))
 
 -- when the latest instruction was dispatched
 abbrev pub dispatched : List Timed → ℕ
 dispatched earlier = time_of (λ x. x.dispatch) (back earlier 1)
 
--- for each cycle behind that, counted from `start`, the table tells what the instructions issue
+-- for each cycle behind that the table tells what the instructions issue
 pub record HasIssued (earlier : List Timed) (slots : List Slot) (start : ℕ) : Type 0 where
   pub issued : (t : ℕ) → dispatched earlier < t
-      → (slot_at slots (start + t)).issued ≡ length (filter (λ x. issues_at t x) earlier)
+      → (slot_at slots start t).issued ≡ length (filter (λ x. issues_at t x) earlier)
   pub alike : (t : ℕ) (class : Class) → dispatched earlier < t
-      → alike_in (slot_at slots (start + t)) class ≡ length (filter (λ x. issues_alike class t x) earlier)
+      → alike_in (slot_at slots start t) class ≡ length (filter (λ x. issues_alike class t x) earlier)
   pub before : Each (λ slot. slot.cycle ≤ start + last_of earlier) slots
   pub sevens : Each (λ slot. length slot.alike ≡ 7) slots

@@ -112,5 +112,5 @@ pub record IsNoted (old new : Flight) (x : Timed) : Type 0 where
   pub registers : new.registers.items ≡ completed_by old.registers.items x.mark.dest x.completion
   pub stores : new.stores.items ≡
       (if is_store x.mark.class then latest_with old.stores.items x.mark.word x.completion else old.stores.items)
-  pub slots : new.slots.items ≡ issued_in old.slots.items x.mark.class (old.start + x.issue)
+  pub slots : new.slots.items ≡ issued_in old.slots.items old.start x.mark.class x.issue
   pub start : new.start ≡ old.start

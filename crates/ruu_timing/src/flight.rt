@@ -33,7 +33,7 @@ pub(crate) struct Flight {
     pub(crate) registers: Vec<u64>,
     /// By when the stores to words of one place have completed.
     pub(crate) stores: Vec<u64>,
-    /// The issues of each cycle, where the trace's first cycle is `start`.
+    /// The issues of each cycle, where the trace's first cycle has the number `start`.
     pub(crate) slots: Vec<Slot>,
     pub(crate) start: u64,
 }
@@ -96,11 +96,11 @@ impl Flight {
         requires widths { AreWidths w.now }
         requires flight { IsFlight w.now self.now }
         requires ready { ready ≤ 2 ^ 36 }
-        ensures value { IsFirst (has_room w.now self.now.slots.items class) (self.now.start + ready) (self.now.start + result) }
+        ensures value { IsFirst (has_room w.now self.now.slots.items self.now.start class) ready result }
         ensures bound { result ≤ 2 ^ 37 }
     {
         let last = retirement_back(&self.rows, 1);
-        first_room(w, &self.slots, class, self.start + ready, self.start + last) - self.start
+        first_room(w, &self.slots, self.start, class, ready, last)
     }
 
     /// The times of an instruction that follows.
@@ -110,7 +110,7 @@ impl Flight {
         requires mark { IsMarked mark }
         requires flight { IsFlight w.now self.now }
         ensures value { (earlier : List TimedValue) → IsKept w.now earlier self.now → result ≡ timed_of w.now earlier mark }
-        ensures room { has_room w.now self.now.slots.items mark.class (self.now.start + result.issue) ≡ true }
+        ensures room { has_room w.now self.now.slots.items self.now.start mark.class result.issue ≡ true }
         ensures mark { result.mark ≡ mark }
         ensures bound { result.issue ≤ 2 ^ 37 }
     {
@@ -131,12 +131,11 @@ impl Flight {
     fn note(&mut self, w: &Widths, timed: Timed)
         requires widths { AreWidths w.now }
         requires flight { IsFlight w.now self.old }
-        requires room { has_room w.now self.old.slots.items timed.mark.class (self.old.start + timed.issue) ≡ true }
+        requires room { has_room w.now self.old.slots.items self.old.start timed.mark.class timed.issue ≡ true }
         requires bound { timed.issue ≤ 2 ^ 37 }
         ensures { IsNoted self.old self.new timed }
     {
-        let class = timed.mark.class;
-        issue_in(w, &mut self.slots, class, self.start + timed.issue);
+        issue_in(w, &mut self.slots, self.start, timed.mark.class, timed.issue);
         complete(&mut self.registers, timed.mark.dest, timed.completion);
         note_store(&mut self.stores, &timed);
         note_access(&mut self.accesses, timed);

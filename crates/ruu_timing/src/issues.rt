@@ -39,33 +39,40 @@ fn place_of(slots: &[Slot], t: u64) -> usize
     (t & (slots.len() as u64 - 1)) as usize
 }
 
-fn slot_at(slots: &[Slot], t: u64) -> Slot
-    requires { IsPower (length slots.now) }
-    ensures { result ≡ slot_at slots.now t }
+fn slot_at(slots: &[Slot], start: u64, t: u64) -> Slot
+    requires power { IsPower (length slots.now) }
+    requires small { (start ≤ 2 ^ 50) × (t ≤ 2 ^ 50) }
+    ensures { result ≡ slot_at slots.now start t }
 {
     let slot = slots[place_of(slots, t)];
-    if slot.cycle == t { slot } else { idle(t) }
+    if slot.cycle == start + t {
+        slot
+    } else {
+        idle(start + t)
+    }
 }
 
 /// Whether one more instruction of a class can issue in a cycle.
 #[tactic(auto, unfolding(crate::specs::Issues::has_room))]
-pub(crate) fn has_room(w: &Widths, slots: &[Slot], class: Class, t: u64) -> bool
-    requires { IsPower (length slots.now) }
-    ensures { result ≡ has_room w.now slots.now class t }
+fn has_room(w: &Widths, slots: &[Slot], start: u64, class: Class, t: u64) -> bool
+    requires power { IsPower (length slots.now) }
+    requires small { (start ≤ 2 ^ 50) × (t ≤ 2 ^ 50) }
+    ensures { result ≡ has_room w.now slots.now start class t }
 {
-    let slot = slot_at(slots, t);
+    let slot = slot_at(slots, start, t);
     let alike = slot.alike[number_of(class)];
     u32::from(slot.issued) < w.issue && u32::from(alike) < limit_of(w, class)
 }
 
 /// Notes one more instruction of a class that issues in a cycle.
-pub(crate) fn issue_in(w: &Widths, slots: &mut [Slot], class: Class, t: u64)
+pub(crate) fn issue_in(w: &Widths, slots: &mut [Slot], start: u64, class: Class, t: u64)
     requires widths { AreWidths w.now }
     requires power { IsPower (length slots.old) }
-    requires room { has_room w.now slots.old class t ≡ true }
-    ensures { slots.new ≡ issued_in slots.old class t }
+    requires small { (start ≤ 2 ^ 50) × (t ≤ 2 ^ 50) }
+    requires room { has_room w.now slots.old start class t ≡ true }
+    ensures { slots.new ≡ issued_in slots.old start class t }
 {
-    let mut slot = slot_at(slots, t);
+    let mut slot = slot_at(slots, start, t);
     slot.issued += 1;
     slot.alike[number_of(class)] += 1;
     let place = place_of(slots, t);
@@ -74,16 +81,23 @@ pub(crate) fn issue_in(w: &Widths, slots: &mut [Slot], class: Class, t: u64)
 
 /// The first cycle from `ready` on that has room for one more instruction of a class. `last` is the
 /// last one in which anything issues.
-pub(crate) fn first_room(w: &Widths, slots: &[Slot], class: Class, ready: u64, last: u64) -> u64
+pub(crate) fn first_room(
+    w: &Widths,
+    slots: &[Slot],
+    start: u64,
+    class: Class,
+    ready: u64,
+    last: u64,
+) -> u64
     requires widths { AreWidths w.now }
     requires power { IsPower (length slots.now) }
-    requires before { Each (λ slot. slot.cycle ≤ last) slots.now }
-    requires small { (ready ≤ 2 ^ 50) × (last ≤ 2 ^ 50) }
-    ensures value { IsFirst (has_room w.now slots.now class) ready result }
+    requires before { Each (λ slot. slot.cycle ≤ start + last) slots.now }
+    requires small { (start ≤ 2 ^ 50) × (ready ≤ 2 ^ 40) × (last ≤ 2 ^ 40) }
+    ensures value { IsFirst (has_room w.now slots.now start class) ready result }
     ensures bound { result ≤ max ready (last + 1) }
 {
     let mut t = ready;
-    'wait: while !has_room(w, slots, class, t) {
+    'wait: while !has_room(w, slots, start, class, t) {
         t += 1;
     }
     t

@@ -6,7 +6,7 @@ abbrev pub invariant-wait : goal.invariant-wait
 invariant-wait l = record {
   start : l.ready ≤ l.t;
   end : l.t ≤ max l.ready (l.last + 1);
-  none : (k : ℕ) → l.ready ≤ k → k < l.t → has_room l.w l.slots l.class k ≡ false;
+  none : (k : ℕ) → l.ready ≤ k → k < l.t → has_room l.w l.slots l.start l.class k ≡ false;
 }
 
 abbrev pub decreases-wait : goal.decreases-wait
