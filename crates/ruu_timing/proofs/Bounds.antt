@@ -1,5 +1,5 @@
 -- Every time of a trace is within its bound.
-use Rattle.std.proofs.Common.{◌≡◌, ◌+◌, ◌*◌, ◌^◌, ◌<◌, ◌≤◌, ℕ, Bool, true, false, zero, suc, cond, List, [], ◌∷◌, length, Option, Some, None, refl, sym, arith, Bor, option_copied, subst}
+use Rattle.std.proofs.Common.{◌≡◌, ◌+◌, ◌*◌, ◌^◌, ◌<◌, ◌≤◌, ℕ, Bool, true, false, zero, suc, cond, List, [], ◌∷◌, length, max, Option, Some, None, refl, sym, arith, Bor, option_copied, subst}
 use Rattle.std.specs.Option.{IfSome}
 use Rattle.std.specs.List.{slice_get, filter, find}
 use Rattle.ruu_timing.specs.declared.timed.Timed.{Timed}
@@ -55,6 +55,15 @@ retired_soon (x ∷ xs) zero order = omega arith
 retired_soon (x ∷ xs) (suc i) order =
     let h : retired xs 0 ≤ retired xs i + 4096 * i = retired_soon xs i order.1 in
     omega (arith, order.0.soon, first_retired xs)
+
+pub retired_near :
+    (earlier : List Timed) (i : ℕ) → AreInOrder earlier
+    → retired earlier 0 ≤ max (retired earlier i) (time_of (λ x. x.dispatch) (slice_get earlier 0)) + 1220 * i
+retired_near [] i order = omega arith
+retired_near (x ∷ xs) zero order = omega arith
+retired_near (x ∷ xs) (suc i) order =
+    let h : retired xs 0 ≤ max (retired xs i) (time_of (λ y. y.dispatch) (slice_get xs 0)) + 1220 * i = retired_near xs i order.1 in
+    omega (arith, order.0.near, order.0.order, first_retired xs)
 
 pub retired_in_order : (earlier : List Timed) (i j : ℕ) → AreInOrder earlier → i ≤ j → retired earlier j ≤ retired earlier i
 retired_in_order [] i j order le = omega arith

@@ -65,7 +65,7 @@ pub record IsDispatch (earlier : List Timed) (fetch dispatch : ℕ) : Type 0 whe
   pub after : fetch + 1 ≤ dispatch
   pub soon : dispatch ≤ max (fetch + 1) (last_of earlier)
 
-dispatch_is :
+pub dispatch_is :
     (w : Widths) (earlier : List Timed) (m : Marked) (fetch : ℕ) → AreTimed earlier
     → IsDispatch earlier fetch (dispatch_of w earlier m fetch)
 unfolding dispatch_of
@@ -86,7 +86,7 @@ dispatch_is w earlier m fetch timed =
     either_le (is_ecall m.class) last 0 last (omega arith) (omega arith) in
     record { after = omega arith; soon = omega arith }
 
-written_le : (earlier : List Timed) (register : Option ℕ) → AreTimed earlier → written earlier register ≤ last_of earlier
+pub written_le : (earlier : List Timed) (register : Option ℕ) → AreTimed earlier → written earlier register ≤ last_of earlier
 written_le earlier None timed = omega arith
 written_le earlier (Some register) timed =
     time_le (λ x. x.completion) (last_of earlier) (last_of earlier) (λ x h. omega (arith, h.completion))
@@ -98,7 +98,7 @@ stored_le earlier (Some word) timed =
     time_le (λ x. x.completion) (last_of earlier) (last_of earlier) (λ x h. omega (arith, h.completion))
     (find (λ x. stores_to word x) earlier) (each_find (IsWithin (last_of earlier)) (stores_to word) earlier timed.each)
 
-ready_is :
+pub ready_is :
     (earlier : List Timed) (m : Marked) (dispatch : ℕ) → AreTimed earlier
     → IsDispatch earlier dispatch (ready_of earlier m dispatch)
 unfolding ready_of
@@ -109,7 +109,7 @@ ready_is earlier m dispatch timed =
     let second : written earlier m.second ≤ last_of earlier = written_le earlier m.second timed in
     record { after = omega arith; soon = omega arith }
 
-issue_is :
+pub issue_is :
     (w : Widths) (earlier : List Timed) (class : Class) (ready : ℕ) → AreWidths w → AreTimed earlier
     → (ready ≤ issue_of w earlier class ready) × (issue_of w earlier class ready ≤ max ready (last_of earlier))
 issue_is w earlier class ready widths timed =
@@ -135,6 +135,13 @@ retirement_is w earlier completion timed =
 one_less : (found : Option Timed) (n : ℕ) → 0 < n → time_of (λ x. x.retirement + 1) found ≤ n → time_of (λ x. x.retirement) found < n
 one_less None n some le = some
 one_less (Some x) n some le = omega arith
+
+-- dispatch is in order
+pub dispatched_before :
+    (w : Widths) (earlier : List Timed) (m : Marked) (fetch : ℕ)
+    → time_of (λ x. x.dispatch) (back earlier 1) ≤ dispatch_of w earlier m fetch
+unfolding dispatch_of
+dispatched_before w earlier m fetch = omega arith
 
 pub next_times :
     (w : Widths) (earlier : List Timed) (m : Marked) → AreWidths w → IsMarked m → AreTimed earlier
@@ -169,6 +176,9 @@ next_times w earlier m widths marked timed =
         rises = retired_then.order;
         soon = omega (arith, dispatched.soon, waited.soon, issued.1, retired_then.soon);
         wide = omega arith;
+        complete = omega (arith, retired_then.after);
+        order = dispatched_before w earlier m fetch;
+        near = omega (arith, waited.soon, issued.1, retired_then.soon);
       },
     )
 

@@ -1,6 +1,6 @@
 -- An issue time is the least cycle with a slot: from the last retirement on each cycle has one.
 use Rattle.std.proofs.Common.{◌≡◌, ◌+◌, ◌<◌, ◌≤◌, ◌==◌, ◌&&◌, ℕ, Bool, true, false, List, [], ◌∷◌, filter, nat_le, nat_lt, max, Option, Some, None, refl, sym, ◌∙◌, arith, inl, inr}
-use Rattle.std.proofs.lemmas.Bool.{le-leb, lt-ltb, cases_lt, ne_eqb, false≢true, and_parts, leb-true}
+use Rattle.std.proofs.lemmas.Bool.{le-leb, lt-leb, lt-ltb, cases_lt, ne_eqb, false≢true, and_parts, leb-true}
 use Rattle.std.specs.Option.{unwrap_or}
 use Rattle.smarts_base.specs.Least.{least_below, IsLeast, IsLeastIfAny}
 use Rattle.smarts_base.proofs.Leasts.{least_below_is, least_below_some}
@@ -10,7 +10,7 @@ use Rattle.hierarchy.specs.declared.widths.Widths.{Widths}
 use Rattle.hierarchy.specs.Widths.{AreWidths}
 use Rattle.ruu_timing.specs.declared.timed.Timed.{Timed}
 use Rattle.ruu_timing.specs.Class.{limit_of}
-use Rattle.ruu_timing.specs.Laws.{IsFirstSlot}
+use Rattle.ruu_timing.specs.Laws.{IsFirst}
 use Rattle.ruu_timing.specs.Times.{has_slot, issue_of, issues_at, issues_alike}
 use Rattle.ruu_timing.specs.Rows.{Each, IsWithin, AreTimed, last_of}
 
@@ -29,7 +29,7 @@ not_alike class t last le (x ∷ xs) each =
     let e : (x.issue == t) ≡ false = ne_eqb x.issue t (λ e. let h : x.issue < last = each.0.issue in omega arith) in
     (rw e refl, not_alike class t last le xs each.1)
 
-limit_positive : (w : Widths) (class : Class) → AreWidths w → 0 < limit_of w class
+pub limit_positive : (w : Widths) (class : Class) → AreWidths w → 0 < limit_of w class
 limit_positive w Alu widths = omega (arith, widths.alus.0)
 limit_positive w Mul widths = omega (arith, widths.muls.0)
 limit_positive w Div widths = omega (arith, widths.divs.0)
@@ -121,13 +121,36 @@ before_free w earlier class ready t widths timed start end slot =
 -- the same with no bound on the cycle
 pub first_slot_is :
     (w : Widths) (earlier : List Timed) (class : Class) (ready t : ℕ)
-    → IsLeast (free_of earlier ready + 1) (may_issue w earlier class ready) t → IsFirstSlot w earlier class ready t
+    → IsLeast (free_of earlier ready + 1) (may_issue w earlier class ready) t → IsFirst (has_slot w earlier class) ready t
 first_slot_is w earlier class ready t least =
     let parts = and_parts (nat_le ready t) (has_slot w earlier class t) least.passes in
     record {
       start = leb-true ready t parts.0;
-      slot = parts.1;
+      passes = parts.1;
       first = λ k from below.
           let late : nat_le ready k ≡ true = le-leb ready k from in
           rw late at (least.first k below);
     }
+
+not_before :
+    (w : Widths) (earlier : List Timed) (class : Class) (ready t k : ℕ) → IsFirst (has_slot w earlier class) ready t
+    → k < t → may_issue w earlier class ready k ≡ false
+not_before w earlier class ready t k is below =
+    elim (cases_lt k ready) [
+      | inl lt ↦ rw (lt-leb ready k lt) refl
+      | inr ge ↦ rw (le-leb ready k ge, is.first k ge below) refl
+    ]
+
+-- the first cycle with a slot is the issue time
+pub first_is_issue :
+    (w : Widths) (earlier : List Timed) (class : Class) (ready t : ℕ) → AreWidths w → AreTimed earlier
+    → IsFirst (has_slot w earlier class) ready t → issue_of w earlier class ready ≡ t
+first_is_issue w earlier class ready t widths timed is =
+    let free : has_slot w earlier class (free_of earlier ready) ≡ true =
+    free_slot w earlier class (free_of earlier ready) widths timed (omega arith) in
+    let end : t ≤ free_of earlier ready =
+    elim (cases_lt (free_of earlier ready) t) [
+      | inl lt ↦ absurd (false≢true (sym (is.first (free_of earlier ready) (omega arith) lt) ∙ free))
+      | inr ge ↦ ge
+    ] in
+    issue_found w earlier class ready t is.start end (λ k below. not_before w earlier class ready t k is below) is.passes

@@ -1,7 +1,7 @@
 -- The times of the first instructions of a trace, and the cycles between two of them.
-use Rattle.std.proofs.Common.{◌≡◌, ◌+◌, ◌-◌, ◌*◌, ◌^◌, ◌<◌, ◌≤◌, ℕ, suc, List, [], ◌∷◌, ◌++◌, length, take, All, Some, sym, ◌∙◌, ap, subst, arith}
+use Rattle.std.proofs.Common.{◌≡◌, ◌+◌, ◌-◌, ◌*◌, ◌^◌, ◌<◌, ◌≤◌, ℕ, suc, List, [], ◌∷◌, ◌++◌, length, take, drop, All, Some, refl, sym, ◌∙◌, ap, subst, arith}
 use Rattle.std.specs.List.{slice_get}
-use Rattle.std.proofs.lemmas.List.{take_more, take_all, length-take-le}
+use Rattle.std.proofs.lemmas.List.{take_more, take_all, length-take-le, length-drop, take-append-drop}
 use Rattle.std.proofs.lemmas.List.Elements.{All-get_or}
 use Rattle.std.proofs.lemmas.Option.{slice_get_within, get_or_from_slice_get}
 use Rattle.hierarchy.specs.declared.marked.Marked.{Marked}
@@ -11,9 +11,12 @@ use Rattle.ruu_timing.specs.declared.timed.Timed.{Timed}
 use Rattle.hierarchy.specs.Widths.{AreWidths}
 use Rattle.ruu_timing.specs.Laws.{IssuesAtFirst}
 use Rattle.ruu_timing.proofs.Slots.{issue_is_least, first_slot_is}
-use Rattle.ruu_timing.specs.Times.{back, time_of, issue_of, timed_of, timed_after, times}
-use Rattle.ruu_timing.specs.Rows.{Each, AreTimed}
+use Rattle.ruu_timing.specs.Times.{back, time_of, issue_of, timed_of, timed_after, times, cycles}
+use Rattle.ruu_timing.specs.declared.flight.Flight.{Flight}
+use Rattle.ruu_timing.specs.Kept.{IsKept}
+use Rattle.ruu_timing.specs.Rows.{Each, AreTimed, last_of}
 use Rattle.ruu_timing.proofs.Bounds.{retired, retired_in_order, retired_soon, retired_wide}
+use Rattle.ruu_timing.proofs.KeptLaws.{last_same}
 use Rattle.ruu_timing.proofs.Nexts.{next_timed, times_behind, length_after}
 
 pub times_more :
@@ -86,3 +89,69 @@ issues_at_first w ms class ready widths few marks =
     let timed : AreTimed (times w ms) = after_timed w [] ms widths none (omega arith) (each_of IsMarked ms marks) in
     first_slot_is w (times w ms) class ready (issue_of w (times w ms) class ready)
     (issue_is_least w (times w ms) class ready widths timed)
+
+-- the times of the first ones stand behind those of the others
+after_both :
+    (w : Widths) (earlier : List Timed) (ms ns : List Marked)
+    → timed_after w earlier (ms ++ ns) ≡ timed_after w (timed_after w earlier ms) ns
+unfolding timed_after
+after_both w earlier [] ns = refl
+after_both w earlier (m ∷ ms) ns = after_both w (timed_of w earlier m ∷ earlier) ms ns
+
+behind :
+    (w : Widths) (earlier : List Timed) (ms : List Marked) (k : ℕ)
+    → slice_get (timed_after w earlier ms) (length ms + k) ≡ slice_get earlier k
+unfolding timed_after
+behind w earlier [] k = let e : 0 + k ≡ k = omega arith in rw e refl
+behind w earlier (m ∷ ms) k =
+    let e : length (m ∷ ms) + k ≡ length ms + suc k = omega arith in
+    rw e (behind w (timed_of w earlier m ∷ earlier) ms (suc k))
+
+-- the last of the first `skip` ones, found in the whole trace
+pub last_before :
+    (w : Widths) (ms : List Marked) (skip : ℕ) → skip < length ms
+    → retired_back (times w (take skip ms)) 1 ≡ retired_back (times w ms) (length ms - skip + 1)
+last_before w ms skip within =
+    let whole : times w ms ≡ timed_after w (times w (take skip ms)) (drop skip ms) =
+    ap (λ (l : List Marked). times w l) (sym (take-append-drop skip ms)) ∙ after_both w [] (take skip ms) (drop skip ms) in
+    let place : length ms - skip + 1 - 1 ≡ length (drop skip ms) + 0 = omega (arith, length-drop skip ms) in
+    rw (place, whole, behind w (times w (take skip ms)) (drop skip ms) 0) refl
+
+-- the last retirement of what is kept
+pub kept_last : (w : Widths) (earlier : List Timed) (f : Flight) → IsKept w earlier f → last_of f.rows.items ≡ retired_back earlier 1
+kept_last w earlier f kept = ap (λ b. last_of b.items) kept.rows ∙ last_same w earlier
+
+pub kept_whole :
+    (w : Widths) (ms : List Marked) (n : ℕ) (f : Flight) → length ms ≤ n → IsKept w (times w (take n ms)) f → IsKept w (times w ms) f
+kept_whole w ms n f le kept = subst (λ l. IsKept w (times w l) f) (take_all n ms le) kept
+
+pub none_kept : (w : Widths) (ms : List Marked) (f : Flight) → IsKept w [] f → IsKept w (times w (take 0 ms)) f
+unfolding timed_after
+none_kept w ms f kept = kept
+
+-- what a run up to `skip` and a run to the end show
+pub record AreCycles (w : Widths) (ms : List Marked) (skip before last : ℕ) : Type 0 where
+  pub order : before ≤ last
+  pub cycles : last - before ≡ cycles w ms skip
+  pub least : skip + 16 ≤ length ms → 1 ≤ last - before
+  pub most : length ms ≤ skip + 10000 → last - before < 2 ^ 26
+
+pub cycles_between :
+    (w : Widths) (ms : List Marked) (skip n : ℕ) (f g : Flight) (before last : ℕ) → skip < length ms → length ms ≤ n
+    → IsKept w (times w (take skip ms)) f → IsKept w (times w (take n ms)) g
+    → before ≡ last_of f.rows.items → last ≡ last_of g.rows.items → AreCycles w ms skip before last
+unfolding cycles
+cycles_between w ms skip n f g before last within end first second was is =
+    let rows : List Timed = times w ms in
+    let k : ℕ = length ms - skip + 1 in
+    let whole : IsKept w rows g = kept_whole w ms n g end second in
+    let early : before ≡ retired_back rows k =
+    was ∙ kept_last w (times w (take skip ms)) f first ∙ last_before w ms skip within in
+    let late : last ≡ retired_back rows 1 = is ∙ kept_last w rows g whole in
+    record {
+      order = rw (early, late) (total_known rows k whole.timed (omega arith));
+      cycles = rw (early, late) refl;
+      least = λ far.
+          rw (early, late) (total_least rows k whole.timed (omega (arith, length_times w ms, within)) (omega arith));
+      most = λ near. rw (early, late) (total_most rows k whole.timed (omega arith));
+    }

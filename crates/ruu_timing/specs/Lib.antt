@@ -1,4 +1,6 @@
 pub mod Class
+pub mod Issues
+pub mod Kept
 pub mod Laws
 pub mod Rows
 pub mod Scalar

@@ -1,6 +1,6 @@
-ghost use Rattle.std.specs.Prelude.{◌≡◌};
+ghost use Rattle.std.specs.Prelude.{◌≡◌, ◌<◌};
 ghost use Rattle.hierarchy.specs.Marked.{accesses_memory};
-ghost use Rattle.ruu_timing.specs.Class.{is_load, is_store, is_ecall, is_same, limit_of};
+ghost use Rattle.ruu_timing.specs.Class.{is_load, is_store, is_ecall, is_same, number_of, limit_of};
 
 use hierarchy::Widths;
 use rv_isa::Class;
@@ -47,5 +47,21 @@ pub(crate) fn limit_of(widths: &Widths, class: Class) -> u32
         Class::Store => widths.stores,
         Class::Control => widths.branches,
         Class::Ecall => 1,
+    }
+}
+
+/// The place of a class in a table of all seven.
+pub(crate) fn number_of(class: Class) -> usize
+    ensures value { result ≡ number_of class }
+    ensures within { result < 7 }
+{
+    match class {
+        Class::Alu => 0,
+        Class::Mul => 1,
+        Class::Div => 2,
+        Class::Load => 3,
+        Class::Store => 4,
+        Class::Control => 5,
+        Class::Ecall => 6,
     }
 }

@@ -24,7 +24,7 @@ fn writes(x: &Timed, register: u8) -> bool
     }
 }
 
-fn stores_to(x: &Timed, word: u32) -> bool
+pub(crate) fn stores_to(x: &Timed, word: u32) -> bool
     ensures { result ≡ stores_to word x.now }
 {
     let is_there = match x.mark.word {

@@ -4,14 +4,20 @@
 
 mod class;
 mod earlier;
+mod flight;
+mod issues;
+mod latest;
 mod laws;
+mod plain;
 mod rows;
 mod ruu;
 mod scalar;
+mod tables;
 mod timed;
 mod trace;
 
 pub use laws::issue_law;
+pub use plain::PlainRuu;
 pub use ruu::Ruu;
 pub use scalar::{scalar_latency, scalar_time};
 pub use timed::Timed;

@@ -38,7 +38,7 @@ impl Model for Rows {
 }
 
 /// When the instruction behind this may be fetched.
-fn next_fetch(w: &Widths, x: &Timed) -> u64
+pub(crate) fn next_fetch(w: &Widths, x: &Timed) -> u64
     requires widths { AreWidths w.now }
     requires within { IsWithin (2 ^ 32) x.now }
     ensures value { result ≡ next_fetch w.now x.now }

@@ -1,9 +1,9 @@
-ghost use Rattle.std.specs.Prelude.{◌≡◌, ◌+◌, ◌-◌, ◌^◌, ◌<◌, ◌≤◌, List, length, IfOk};
+ghost use Rattle.std.specs.Prelude.{◌≡◌, ◌+◌, ◌^◌, ◌<◌, ◌≤◌, length, IfOk};
 ghost use Rattle.hierarchy.specs.Widths.{AreWidths};
 ghost use Rattle.ruu_timing.specs.Trace.{IsTrace};
 ghost use Rattle.ruu_timing.specs.Times.{cycles};
 
-use crate::rows::Rows;
+use crate::flight::Flight;
 use crate::trace::Trace;
 use hierarchy::Widths;
 use smarts_base::NoMemory;
@@ -15,18 +15,19 @@ use std::marker::Model;
 #[derive(Debug, Drop)]
 pub struct Ruu {
     widths: Widths,
-    rows: Rows,
+    flight: Flight,
 }
 
 impl Model for Ruu {
     ghost use Rattle.hierarchy.specs.declared.widths.Widths.{Widths as WidthsValue};
     ghost use Rattle.hierarchy.specs.Widths.{AreWidths};
+    ghost use Rattle.ruu_timing.specs.Kept.{IsFlight};
 
     ghost Value = { WidthsValue };
 
     ghost view = { λ ruu. ruu.widths };
 
-    ghost invariant = { λ ruu. AreWidths ruu.widths };
+    ghost invariant = { λ ruu. AreWidths ruu.widths × IsFlight ruu.widths ruu.flight };
 }
 
 impl Ruu {
@@ -36,7 +37,7 @@ impl Ruu {
     {
         Ok(Ruu {
             widths: *widths,
-            rows: Rows::new(alloc)?,
+            flight: Flight::new(alloc, widths)?,
         })
     }
 
@@ -49,7 +50,10 @@ impl Ruu {
         ensures most { length (T.items trace.now) ≤ skip + 10000 → result < 2 ^ 26 }
         ensures widths { self.new ≡ self.old }
     {
-        self.rows.time_all(&self.widths, trace);
-        self.rows.retirement_back(1) - self.rows.retirement_back(trace.len() - skip + 1)
+        self.flight.restart(&self.widths);
+        self.flight.run(&self.widths, trace, 0, skip);
+        let before = self.flight.retirement();
+        self.flight.run(&self.widths, trace, skip, trace.len());
+        self.flight.retirement() - before
     }
 }

@@ -1,30 +1,41 @@
-use Rattle.std.proofs.Common.{◌≡◌, ◌+◌, ◌-◌, ◌<◌, List, length, refl, ◌∙◌, ap, arith}
-use Rattle.hierarchy.specs.declared.marked.Marked.{Marked}
-use Rattle.ruu_timing.specs.declared.timed.Timed.{Timed}
-use Rattle.ruu_timing.specs.Times.{cycles}
-use Rattle.ruu_timing.proofs.Totals.{length_times, total_known, total_least, total_most}
+use Rattle.std.proofs.Common.{◌≡◌, arith}
+use Rattle.ruu_timing.proofs.KeptNext.{kept_flight}
+use Rattle.ruu_timing.proofs.Totals.{cycles_between, none_kept}
 use Rattle.ruu_timing.proofs.ruu.Ruu.time.Goals as goal
+
+pub run-requires-clause-kept : goal.run-requires-clause-kept
+run-requires-clause-kept g c = none_kept c.self.inside.widths (g.T.Trace.items c.args.trace.now) c.restart.new.self c.restart.ensures
+
+pub retirement-before-requires : goal.retirement-before-requires
+retirement-before-requires g c = (kept_flight c.self.inside.widths _ c.run.new.self c.run.ensures).small
+
+pub retirement-requires : goal.retirement-requires
+retirement-requires g c = (kept_flight c.self.inside.widths _ c.run-2.new.self c.run-2.ensures).small
 
 pub overflow_sub-result : goal.overflow_sub-result
 overflow_sub-result g c =
-    rw (c.retirement_back.ensures.value, c.retirement_back-2.ensures.value)
-    (total_known c.time_all.new.self (c.len.result - c.args.skip + 1) c.retirement_back.ensures.timed (omega arith))
+    (cycles_between c.self.inside.widths (g.T.Trace.items c.args.trace.now) c.args.skip c.len.result c.run.new.self c.run-2.new.self
+    c.retirement-before.result c.retirement.result c.requires.within (omega (arith, c.len.ensures)) c.run.ensures c.run-2.ensures
+    c.retirement-before.ensures c.retirement.ensures).order
+
+pub invariant_of-self : goal.invariant_of-self
+invariant_of-self g c = (c.self.invariant.0, kept_flight c.self.inside.widths _ c.run-2.new.self c.run-2.ensures)
 
 pub returns-clause-cycles : goal.returns-clause-cycles
-unfolding cycles
 returns-clause-cycles g c =
-    rw (c.retirement_back.ensures.value, c.retirement_back-2.ensures.value, c.time_all.ensures, c.len.ensures, c.self.view_is) refl
+    rw (← c.self.view_is)
+    (cycles_between c.self.inside.widths (g.T.Trace.items c.args.trace.now) c.args.skip c.len.result c.run.new.self c.run-2.new.self
+    c.retirement-before.result c.retirement.result c.requires.within (omega (arith, c.len.ensures)) c.run.ensures c.run-2.ensures
+    c.retirement-before.ensures c.retirement.ensures).cycles
 
 pub returns-clause-least : goal.returns-clause-least
-returns-clause-least g c = λ far.
-    let items : List Marked = g.T.Trace.items c.args.trace.now in
-    let count : length c.time_all.new.self ≡ length items =
-    ap (λ (l : List Timed). length l) c.time_all.ensures ∙ length_times c.self.inside.widths items in
-    let some : 0 < length c.time_all.new.self = omega (arith, c.requires.within) in
-    rw (c.retirement_back.ensures.value, c.retirement_back-2.ensures.value)
-    (total_least c.time_all.new.self (c.len.result - c.args.skip + 1) c.retirement_back.ensures.timed some (omega arith))
+returns-clause-least g c =
+    (cycles_between c.self.inside.widths (g.T.Trace.items c.args.trace.now) c.args.skip c.len.result c.run.new.self c.run-2.new.self
+    c.retirement-before.result c.retirement.result c.requires.within (omega (arith, c.len.ensures)) c.run.ensures c.run-2.ensures
+    c.retirement-before.ensures c.retirement.ensures).least
 
 pub returns-clause-most : goal.returns-clause-most
-returns-clause-most g c = λ near.
-    rw (c.retirement_back.ensures.value, c.retirement_back-2.ensures.value)
-    (total_most c.time_all.new.self (c.len.result - c.args.skip + 1) c.retirement_back.ensures.timed (omega arith))
+returns-clause-most g c =
+    (cycles_between c.self.inside.widths (g.T.Trace.items c.args.trace.now) c.args.skip c.len.result c.run.new.self c.run-2.new.self
+    c.retirement-before.result c.retirement.result c.requires.within (omega (arith, c.len.ensures)) c.run.ensures c.run-2.ensures
+    c.retirement-before.ensures c.retirement.ensures).most

@@ -1,0 +1,161 @@
+//! How many instructions issue in each cycle.
+ghost use Rattle.std.specs.Prelude.{◌≡◌, ◌+◌, ◌*◌, ◌^◌, ◌<◌, ◌≤◌, length, max, replicate, IfOk, true};
+ghost use Rattle.hierarchy.specs.Widths.{AreWidths};
+ghost use Rattle.ruu_timing.specs.Class.{number_of, limit_of};
+ghost use Rattle.ruu_timing.specs.Issues.{IsPower, idle, place_of, slot_at, has_room, issued_in};
+ghost use Rattle.ruu_timing.specs.Laws.{IsFirst};
+ghost use Rattle.ruu_timing.specs.Rows.{Each};
+
+use crate::class::{limit_of, number_of};
+use hierarchy::Widths;
+use rv_isa::Class;
+use smarts_base::NoMemory;
+use std::alloc::Global;
+
+/// The instructions that issue in a cycle, in all and of each class.
+#[derive(Clone, Copy, Debug)]
+pub(crate) struct Slot {
+    pub(crate) cycle: u64,
+    pub(crate) issued: u8,
+    pub(crate) alike: [u8; 7],
+}
+
+fn idle(cycle: u64) -> Slot
+    ensures { result ≡ idle cycle }
+{
+    Slot {
+        cycle,
+        issued: 0,
+        alike: [0; 7],
+    }
+}
+
+#[tactic(auto, using(crate::proofs::IssueTable::power_some, crate::proofs::IssueTable::masked))]
+fn place_of(slots: &[Slot], t: u64) -> usize
+    requires { IsPower (length slots.now) }
+    ensures value { result ≡ place_of slots.now t }
+    ensures within { result < length slots.now }
+{
+    (t & (slots.len() as u64 - 1)) as usize
+}
+
+fn slot_at(slots: &[Slot], start: u64, t: u64) -> Slot
+    requires power { IsPower (length slots.now) }
+    requires small { (start ≤ 2 ^ 50) × (t ≤ 2 ^ 50) }
+    ensures { result ≡ slot_at slots.now start t }
+{
+    let slot = slots[place_of(slots, t)];
+    if slot.cycle == start + t {
+        slot
+    } else {
+        idle(start + t)
+    }
+}
+
+/// Whether one more instruction of a class can issue in a cycle.
+#[tactic(auto, unfolding(crate::specs::Issues::has_room))]
+fn has_room(w: &Widths, slots: &[Slot], start: u64, class: Class, t: u64) -> bool
+    requires power { IsPower (length slots.now) }
+    requires small { (start ≤ 2 ^ 50) × (t ≤ 2 ^ 50) }
+    ensures { result ≡ has_room w.now slots.now start class t }
+{
+    let slot = slot_at(slots, start, t);
+    let alike = slot.alike[number_of(class)];
+    u32::from(slot.issued) < w.issue && u32::from(alike) < limit_of(w, class)
+}
+
+/// Notes one more instruction of a class that issues in a cycle.
+pub(crate) fn issue_in(w: &Widths, slots: &mut [Slot], start: u64, class: Class, t: u64)
+    requires widths { AreWidths w.now }
+    requires power { IsPower (length slots.old) }
+    requires small { (start ≤ 2 ^ 50) × (t ≤ 2 ^ 50) }
+    requires room { has_room w.now slots.old start class t ≡ true }
+    ensures { slots.new ≡ issued_in slots.old start class t }
+{
+    let mut slot = slot_at(slots, start, t);
+    slot.issued += 1;
+    slot.alike[number_of(class)] += 1;
+    let place = place_of(slots, t);
+    slots[place] = slot;
+}
+
+/// The first cycle from `ready` on that has room for one more instruction of a class. `last` is the
+/// last one in which anything issues.
+pub(crate) fn first_room(
+    w: &Widths,
+    slots: &[Slot],
+    start: u64,
+    class: Class,
+    ready: u64,
+    last: u64,
+) -> u64
+    requires widths { AreWidths w.now }
+    requires power { IsPower (length slots.now) }
+    requires before { Each (λ slot. slot.cycle ≤ start + last) slots.now }
+    requires small { (start ≤ 2 ^ 50) × (ready ≤ 2 ^ 40) × (last ≤ 2 ^ 40) }
+    ensures value { IsFirst (has_room w.now slots.now start class) ready result }
+    ensures bound { result ≤ max ready (last + 1) }
+{
+    let mut t = ready;
+    'wait: while !has_room(w, slots, start, class, t) {
+        t += 1;
+    }
+    t
+}
+
+/// As many places as a table needs: a power of two, from 1280 for each place of the register update
+/// unit.
+fn size_for(ruu: u32) -> usize
+    requires { ruu ≤ 256 }
+    ensures power { IsPower result }
+    ensures wide { 1280 * ruu ≤ result }
+{
+    if ruu <= 51 {
+        1 << 16
+    } else if ruu <= 102 {
+        1 << 17
+    } else if ruu <= 204 {
+        1 << 18
+    } else {
+        1 << 19
+    }
+}
+
+/// A table of so many places, in which nothing issues.
+fn all_idle(alloc: Global, size: usize) -> Result<Vec<Slot>, NoMemory>
+    ensures { IfOk result (λ slots. slots.items ≡ replicate size (idle 0)) }
+{
+    let mut slots = Vec::with_capacity(alloc, size)?;
+    for _place in 0..size {
+        slots.push_reserved(idle(0));
+    }
+    Ok(slots)
+}
+
+/// A table for a register update unit of so many places, in which nothing issues.
+pub(crate) fn table(alloc: Global, ruu: u32) -> Result<Vec<Slot>, NoMemory>
+    requires { ruu ≤ 256 }
+    ensures power { IfOk result (λ slots. IsPower (length slots.items)) }
+    ensures wide { IfOk result (λ slots. 1280 * ruu ≤ length slots.items) }
+    ensures before { IfOk result (λ slots. Each (λ slot. slot.cycle ≤ 0) slots.items) }
+    ensures sevens { IfOk result (λ slots. Each (λ slot. length slot.alike ≡ 7) slots.items) }
+{
+    all_idle(alloc, size_for(ruu))
+}
+
+/// The first cycle of a further trace: behind all that the table knows of, so that the table need
+/// not be emptied, as long as there are cycles.
+pub(crate) fn next_start(slots: &mut [Slot], start: u64) -> u64
+    requires before { Each (λ slot. slot.cycle ≤ start) slots.old }
+    requires sevens { Each (λ slot. length slot.alike ≡ 7) slots.old }
+    ensures start { result ≤ 2 ^ 41 }
+    ensures before { Each (λ slot. slot.cycle ≤ result) slots.new }
+    ensures sevens { Each (λ slot. length slot.alike ≡ 7) slots.new }
+    ensures size { length slots.new ≡ length slots.old }
+{
+    if start <= 1 << 41 {
+        return start;
+    }
+    slots.fill(idle(0));
+    0
+}
