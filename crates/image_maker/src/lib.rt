@@ -2,8 +2,11 @@
 //! any length can be had without a file.
 #![tactic(auto)]
 
+mod assembly;
 mod choice;
 mod image;
 mod program;
+#[cfg(test)]
+mod tests;
 
 pub use image::make_image;

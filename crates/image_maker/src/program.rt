@@ -3,6 +3,7 @@ ghost use Rattle.rv_isa.specs.Table.{IsEncodable};
 ghost use Rattle.image_maker.specs.Choice.{IsChoice};
 ghost use Rattle.image_maker.specs.Program as meaning;
 
+use crate::assembly::{add, addi, and, andi, beq, bne, lui, lw, mul, sw, xor};
 use crate::choice::{Choice, Kind, choose};
 use rv_isa::Inst;
 use smarts_base::{Draws, NoMemory};
@@ -21,28 +22,11 @@ fn start(size: u32) -> [Inst; 5]
 {
     let high = (size + 2048) / 4096 * 4096;
     [
-        Inst::Lui {
-            rd: 8,
-            imm: 0x20000,
-        },
-        Inst::Lui {
-            rd: 18,
-            imm: 0x10000,
-        },
-        Inst::Addi {
-            rd: 18,
-            rs1: 18,
-            imm: -4,
-        },
-        Inst::Lui {
-            rd: 9,
-            imm: high as i32,
-        },
-        Inst::Addi {
-            rd: 9,
-            rs1: 9,
-            imm: size as i32 - high as i32,
-        },
+        lui(8, 0x20000),
+        lui(18, 0x10000),
+        addi(18, 18, -4),
+        lui(9, high as i32),
+        addi(9, 9, size as i32 - high as i32),
     ]
 }
 
@@ -52,79 +36,12 @@ fn group(choice: &Choice) -> [Inst; 4]
     ensures value { result ≡ meaning.group_of choice.now }
     ensures encodable { All IsEncodable result }
 {
-    let (a, b, imm) = (choice.first, choice.second, choice.amount);
-    let move_on = Inst::Addi {
-        rd: 7,
-        rs1: 7,
-        imm: 4 * imm,
-    };
-    let wrap = Inst::And {
-        rd: 7,
-        rs1: 7,
-        rs2: 18,
-    };
-    let place = Inst::Add {
-        rd: 6,
-        rs1: 7,
-        rs2: 8,
-    };
+    let (a, b, m) = (choice.first, choice.second, choice.amount);
     match choice.kind {
-        Kind::Mix => [
-            Inst::Add {
-                rd: a,
-                rs1: a,
-                rs2: b,
-            },
-            Inst::Xor {
-                rd: b,
-                rs1: b,
-                rs2: a,
-            },
-            Inst::Addi { rd: a, rs1: a, imm },
-            Inst::Mul {
-                rd: b,
-                rs1: b,
-                rs2: a,
-            },
-        ],
-        Kind::Load => [
-            move_on,
-            wrap,
-            place,
-            Inst::Lw {
-                rd: a,
-                rs1: 6,
-                imm: 0,
-            },
-        ],
-        Kind::Store => [
-            move_on,
-            wrap,
-            place,
-            Inst::Sw {
-                rs1: 6,
-                rs2: b,
-                imm: 0,
-            },
-        ],
-        Kind::Branch => [
-            Inst::Andi {
-                rd: 6,
-                rs1: a,
-                imm: 1,
-            },
-            Inst::Beq {
-                rs1: 6,
-                rs2: 0,
-                imm: 4,
-            },
-            Inst::Addi { rd: a, rs1: a, imm },
-            Inst::Xor {
-                rd: b,
-                rs1: b,
-                rs2: a,
-            },
-        ],
+        Kind::Mix => [add(a, a, b), xor(b, b, a), addi(a, a, m), mul(b, b, a)],
+        Kind::Load => [addi(7, 7, 4 * m), and(7, 7, 18), add(6, 7, 8), lw(a, 6, 0)],
+        Kind::Store => [addi(7, 7, 4 * m), and(7, 7, 18), add(6, 7, 8), sw(6, b, 0)],
+        Kind::Branch => [andi(6, a, 1), beq(6, 0, 4), addi(a, a, m), xor(b, b, a)],
     }
 }
 
@@ -134,26 +51,10 @@ fn end() -> [Inst; 5]
     ensures encodable { All IsEncodable result }
 {
     [
-        Inst::Addi {
-            rd: 9,
-            rs1: 9,
-            imm: -1,
-        },
-        Inst::Bne {
-            rs1: 9,
-            rs2: 0,
-            imm: -1028,
-        },
-        Inst::Addi {
-            rd: 17,
-            rs1: 0,
-            imm: 93,
-        },
-        Inst::Addi {
-            rd: 10,
-            rs1: 0,
-            imm: 0,
-        },
+        addi(9, 9, -1),
+        bne(9, 0, -1028),
+        addi(17, 0, 93),
+        addi(10, 0, 0),
         Inst::Ecall,
     ]
 }
