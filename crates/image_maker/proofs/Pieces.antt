@@ -57,11 +57,14 @@ four_by kind.Load choice = refl
 four_by kind.Store choice = refl
 four_by kind.Branch choice = refl
 
+pub four_in : (choice : Choice) → length (group_of choice) ≡ 4
+four_in choice = four_by choice.kind choice
+
 pub length_groups : (seed count : ℕ) → length (groups seed count) ≡ 4 * count
 unfolding groups
 length_groups seed count =
     rw (
-      length_by_fours group_of (λ choice. four_by choice.kind choice) (map (choice_of seed) _),
+      length_by_fours group_of four_in (map (choice_of seed) _),
       length-map-range_with_len (choice_of seed) 0 count,
     )
 
