@@ -23,12 +23,6 @@ pub record IsGroup (code : List Inst) (place : ℕ) (group : List Inst) : Type 0
   pub third : get_or code (place + 2) Ecall ≡ get_or group 2 Ecall
   pub fourth : get_or code (place + 3) Ecall ≡ get_or group 3 Ecall
 
-small : (d : ℕ) → d ≤ 500 → IsSigned 12 (pos d)
-small d h = (omega (arith, ints), omega (arith, ints))
-
-fourfold : (d : ℕ) → d ≤ 500 → IsSigned 12 (pos 4 *ℤ pos d)
-fourfold d h = (omega (arith, ints), omega (arith, ints))
-
 masked : (x : ℕ) → bit_and x 0xFFFC % 4 ≡ 0
 masked x = omega (arith, bit_at_and x 0xFFFC 0, bit_at_and x 0xFFFC 1)
 
@@ -61,16 +55,16 @@ mix start code n place turns a b d ha hb few below group s0 =
     let free_b = drawn_free b hb in
     let s1 =
     compute start code n place turns s0 (Add a a b) a _ (n + 1) (place + 1) refl refl (omega arith)
-    group.first (omega arith, omega arith, omega arith) free_a refl in
+    group.first free_a refl in
     let s2 =
     compute start code (n + 1) (place + 1) turns s1.0 (Xor b b a) b _ (n + 2) (place + 2) (omega arith) (omega arith) (omega arith)
-    group.second (omega arith, omega arith, omega arith) free_b refl in
+    group.second free_b refl in
     let s3 =
     compute start code (n + 2) (place + 2) turns s2.0 (Addi a a (pos d)) a _ (n + 3) (place + 3) (omega arith) (omega arith) (omega arith)
-    group.third (omega arith, omega arith, small d few) free_a refl in
+    group.third free_a refl in
     let s4 =
     compute start code (n + 3) (place + 3) turns s3.0 (Mul b b a) b _ (n + 4) (place + 4) (omega arith) (omega arith) (omega arith)
-    group.fourth (omega arith, omega arith, omega arith) free_b refl in
+    group.fourth free_b refl in
     s4.0
 
 branch :
@@ -83,16 +77,16 @@ branch start code n place turns a b d ha hb few below group s0 =
     let free_b = drawn_free b hb in
     let s1 =
     compute start code n place turns s0 (Andi 6 a (pos 1)) 6 _ (n + 1) (place + 1) refl refl (omega arith)
-    group.first (omega arith, omega arith, small 1 (omega arith)) free_6 refl in
+    group.first free_6 refl in
     let s2 =
     pass start code (n + 1) (place + 1) turns s1.0 (Beq 6 0 (pos 4)) _ (n + 2) (place + 2) (omega arith) (omega arith) (omega arith)
-    group.second (omega arith, omega arith, (omega (arith, ints), omega (arith, ints)), refl) refl in
+    group.second refl in
     let s3 =
     compute start code (n + 2) (place + 2) turns s2 (Addi a a (pos d)) a _ (n + 3) (place + 3) (omega arith) (omega arith) (omega arith)
-    group.third (omega arith, omega arith, small d few) free_a refl in
+    group.third free_a refl in
     let s4 =
     compute start code (n + 3) (place + 3) turns s3.0 (Xor b b a) b _ (n + 4) (place + 4) (omega arith) (omega arith) (omega arith)
-    group.fourth (omega arith, omega arith, omega arith) free_b refl in
+    group.fourth free_b refl in
     s4.0
 
 -- the three instructions that find the next word of data
@@ -110,17 +104,17 @@ finds :
 finds start code n place turns d few below one two three s0 =
     let s1 =
     compute start code n place turns s0 (Addi 7 7 (pos 4 *ℤ pos d)) 7 _ (n + 1) (place + 1) refl refl (omega arith)
-    one (omega arith, omega arith, fourfold d few) free_7 refl in
+    one free_7 refl in
     let r1 : List ℕ = s1.0.state.regs in
     let anded : ℕ = bit_and (slice_index r1 7) (slice_index r1 18) in
     let s2 =
     compute start code (n + 1) (place + 1) turns s1.0 (And 7 7 18) 7 anded (n + 2) (place + 2) (omega arith) (omega arith) (omega arith)
-    two (omega arith, omega arith, omega arith) free_7 refl in
+    two free_7 refl in
     let r2 : List ℕ = s2.0.state.regs in
     let found : ℕ = sum_of (slice_index r2 7) (slice_index r2 8) in
     let s3 =
     compute start code (n + 2) (place + 2) turns s2.0 (Add 6 7 8) 6 found (n + 3) (place + 3) (omega arith) (omega arith) (omega arith)
-    three (omega arith, omega arith, omega arith) free_6 refl in
+    three free_6 refl in
     let seven : slice_index r2 7 ≡ bit_and (slice_index r1 7) 0xFFFC =
     ap (λ (r : List ℕ). slice_index r 7) s2.1
     ∙ read_new r1 7 anded (omega arith) (omega (arith, s1.0.within.size))
@@ -140,7 +134,7 @@ loading :
 loading start code n place turns a b d ha hb few below group s0 =
     let f = finds start code n place turns d few below group.first group.second group.third s0 in
     load start code (n + 3) (place + 3) turns f.stands (Lw a 6 (pos 0)) a _ (n + 4) (place + 4) (omega arith) (omega arith) (omega arith)
-    group.fourth (omega arith, omega arith, small 0 (omega arith)) (drawn_free a ha) refl
+    group.fourth (drawn_free a ha) refl
     (data_at (slice_index f.stands.state.regs 6) f.found)
 
 storing :
@@ -151,7 +145,7 @@ storing :
 storing start code n place turns a b d ha hb few below group s0 =
     let f = finds start code n place turns d few below group.first group.second group.third s0 in
     store start code (n + 3) (place + 3) turns f.stands (Sw 6 b (pos 0)) _ _ (n + 4) (place + 4) (omega arith) (omega arith) (omega arith)
-    group.fourth (omega arith, omega arith, small 0 (omega arith)) refl
+    group.fourth refl
     (data_at (slice_index f.stands.state.regs 6) f.found)
 
 pub group_goes :

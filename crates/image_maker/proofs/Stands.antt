@@ -35,6 +35,7 @@ pub record IsWithin (program : List Inst) (place left : ℕ) (now : State) : Typ
   pub turns : slice_index now.regs 9 ≡ left
   pub code :
       (k : ℕ) → k < 266 → word_at now.words (address_of k) ≡ Some (word_of (get_or program k Ecall))
+  pub used : (k : ℕ) → k < 266 → IsUsed (get_or program k Ecall)
   pub mapped :
       (addr : ℕ) → addr % 4 ≡ 0 → 0x00020000 ≤ addr → addr < 0x00030000
       → IsSome (word_at now.words addr)
@@ -80,12 +81,11 @@ drawn_free r h = record {
 
 pub ready_at :
     (code : List Inst) (place turns : ℕ) (now : State) (i : Inst)
-    → IsWithin code place turns now → place < 266 → get_or code place Ecall ≡ i → IsUsed i
-    → IsReady now i
-ready_at code place turns now i within below is used = record {
+    → IsWithin code place turns now → place < 266 → get_or code place Ecall ≡ i → IsReady now i
+ready_at code place turns now i within below is = record {
   running = within.running;
   word = rw (within.pc, within.code place below, is) refl;
-  used = used;
+  used = rw (← is) (within.used place below);
 }
 
 pub next_pc : (pc place k : ℕ) → pc ≡ address_of place → place < 266 → k ≡ place + 1 → following pc ≡ address_of k
@@ -103,6 +103,7 @@ wrote code place turns rd value k now within below one free = record {
   mask = read_kept now.regs rd value 18 (λ e. absurd (omega (arith, free.high))) ∙ within.mask;
   turns = read_kept now.regs rd value 9 (λ e. free.not_turns (sym e)) ∙ within.turns;
   code = within.code;
+  used = within.used;
   mapped = within.mapped;
 }
 
@@ -125,13 +126,13 @@ led start now after code n m k turns at running leads one within = record {
 pub compute :
     (start : State) (code : List Inst) (n place turns : ℕ) (stands : Stands start code n place turns)
     (i : Inst) (rd value m k : ℕ)
-    → m ≡ n + 1 → k ≡ place + 1 → place < 266 → get_or code place Ecall ≡ i → IsUsed i → IsFree rd
+    → m ≡ n + 1 → k ≡ place + 1 → place < 266 → get_or code place Ecall ≡ i → IsFree rd
     → action_of stands.state.pc stands.state.regs i ≡ action.Compute rd value
     → (later : Stands start code m k turns) × (later.state.regs ≡ write stands.state.regs rd value)
-compute start code n place turns stands i rd value m k more one below is used free does =
+compute start code n place turns stands i rd value m k more one below is free does =
     let now = stands.state in
     let within = stands.within in
-    let leads = computed now i rd value (ready_at code place turns now i within below is used) does in
+    let leads = computed now i rd value (ready_at code place turns now i within below is) does in
     (record {
       state = record now { regs = write now.regs rd value; pc = following now.pc };
       at = came start now _ n m stands.at within.running leads more;
@@ -151,15 +152,15 @@ pub record IsData (addr : ℕ) : Type 0 where
 pub load :
     (start : State) (code : List Inst) (n place turns : ℕ) (stands : Stands start code n place turns)
     (i : Inst) (rd addr m k : ℕ)
-    → m ≡ n + 1 → k ≡ place + 1 → place < 266 → get_or code place Ecall ≡ i → IsUsed i → IsFree rd
+    → m ≡ n + 1 → k ≡ place + 1 → place < 266 → get_or code place Ecall ≡ i → IsFree rd
     → action_of stands.state.pc stands.state.regs i ≡ action.Load rd addr size.Word true → IsData addr
     → Stands start code m k turns
-load start code n place turns stands i rd addr m k more one below is used free does there =
+load start code n place turns stands i rd addr m k more one below is free does there =
     let now = stands.state in
     let within = stands.within in
     let found = some_of (word_at now.words addr) (within.mapped addr there.aligned there.low there.high) in
     let leads =
-    loads now i rd addr found.0 (ready_at code place turns now i within below is used) does there.aligned found.1 in
+    loads now i rd addr found.0 (ready_at code place turns now i within below is) does there.aligned found.1 in
     led start now (record now { regs = write now.regs rd found.0; pc = following now.pc }) code n m k turns
     stands.at within.running leads more (wrote code place turns rd found.0 k now within below one free)
 
@@ -173,15 +174,15 @@ still_there words addr value q is =
 pub store :
     (start : State) (code : List Inst) (n place turns : ℕ) (stands : Stands start code n place turns)
     (i : Inst) (addr value m k : ℕ)
-    → m ≡ n + 1 → k ≡ place + 1 → place < 266 → get_or code place Ecall ≡ i → IsUsed i
+    → m ≡ n + 1 → k ≡ place + 1 → place < 266 → get_or code place Ecall ≡ i
     → action_of stands.state.pc stands.state.regs i ≡ action.Store addr size.Word value → IsData addr
     → Stands start code m k turns
-store start code n place turns stands i addr value m k more one below is used does there =
+store start code n place turns stands i addr value m k more one below is does there =
     let now = stands.state in
     let within = stands.within in
     let found = some_of (word_at now.words addr) (within.mapped addr there.aligned there.low there.high) in
     let leads =
-    stores now i addr value found.0 (ready_at code place turns now i within below is used) does there.aligned found.1 in
+    stores now i addr value found.0 (ready_at code place turns now i within below is) does there.aligned found.1 in
     led start now (record now { words = stored now.words addr value; pc = following now.pc }) code n m k turns
     stands.at within.running leads more
     (record {
@@ -195,6 +196,7 @@ store start code n place turns stands i addr value m k more one below is used do
           λ j h.
           stored_there now.words addr value (address_of j) (λ e. absurd (omega (arith, there.low)))
           ∙ within.code j h;
+      used = within.used;
       mapped = λ q aligned low high. still_there now.words addr value q (within.mapped q aligned low high);
     })
 
@@ -206,16 +208,16 @@ either_way false pc = refl
 pub pass :
     (start : State) (code : List Inst) (n place turns : ℕ) (stands : Stands start code n place turns)
     (i : Inst) (taken : Bool) (m k : ℕ)
-    → m ≡ n + 1 → k ≡ place + 1 → place < 266 → get_or code place Ecall ≡ i → IsUsed i
+    → m ≡ n + 1 → k ≡ place + 1 → place < 266 → get_or code place Ecall ≡ i
     → action_of stands.state.pc stands.state.regs i ≡ action.Branch taken (following stands.state.pc)
     → Stands start code m k turns
-pass start code n place turns stands i taken m k more one below is used does =
+pass start code n place turns stands i taken m k more one below is does =
     let now = stands.state in
     let within = stands.within in
     let aligned : following now.pc % 4 ≡ 0 =
     rw (next_pc now.pc place k within.pc below one) (omega arith) in
     let leads =
-    branched now i taken (following now.pc) (ready_at code place turns now i within below is used) does aligned in
+    branched now i taken (following now.pc) (ready_at code place turns now i within below is) does aligned in
     led start now (record now { pc = target_of taken (following now.pc) now.pc }) code n m k turns
     stands.at within.running leads more
     (record {
@@ -226,5 +228,6 @@ pass start code n place turns stands i taken m k more one below is used does =
       mask = within.mask;
       turns = within.turns;
       code = within.code;
+      used = within.used;
       mapped = within.mapped;
     })

@@ -67,7 +67,7 @@ counts_down start code n c below is s =
     ap (λ (x : ℕ). sum_of x (word (neg_ℤ (pos 1)))) within.turns ∙ down c below in
     let leads =
     computed now (Addi 9 9 (neg_ℤ (pos 1))) 9 value
-    (ready_at code 261 (suc c) now (Addi 9 9 (neg_ℤ (pos 1))) within (omega arith) is (omega arith, omega arith, (omega (arith, ints), omega (arith, ints))))
+    (ready_at code 261 (suc c) now (Addi 9 9 (neg_ℤ (pos 1))) within (omega arith) is)
     refl in
     led start now (record now { regs = write now.regs 9 value; pc = following now.pc }) code n (n + 1) 262 c
     s.at within.running leads refl
@@ -79,6 +79,7 @@ counts_down start code n c below is s =
       mask = read_kept now.regs 9 value 18 (λ e. absurd (omega arith)) ∙ within.mask;
       turns = read_new now.regs 9 value (omega arith) (omega (arith, within.size)) ∙ counted;
       code = within.code;
+      used = within.used;
       mapped = within.mapped;
     })
 
@@ -106,7 +107,7 @@ branches_back start code n c is s =
     let aligned : target % 4 ≡ 0 = rw within.pc refl in
     let leads =
     branched now (Bne 9 0 (neg_ℤ (pos 1028))) taken target
-    (ready_at code 262 c now (Bne 9 0 (neg_ℤ (pos 1028))) within (omega arith) is (omega arith, omega arith, (omega (arith, ints), omega (arith, ints)), refl))
+    (ready_at code 262 c now (Bne 9 0 (neg_ℤ (pos 1028))) within (omega arith) is)
     refl aligned in
     led start now (record now { pc = target_of taken target now.pc }) code n (n + 1) (place_behind c) c
     s.at within.running leads refl
@@ -118,6 +119,7 @@ branches_back start code n c is s =
       mask = within.mask;
       turns = within.turns;
       code = within.code;
+      used = within.used;
       mapped = within.mapped;
     })
 
@@ -176,10 +178,10 @@ exits_at_end start size seed n s =
     record { low = omega arith; high = omega arith; not_base = λ e. absurd (omega arith); not_turns = λ e. absurd (omega arith) } in
     let s1 =
     compute start code n 263 0 s (Addi 17 0 (pos 93)) 17 93 (n + 1) 264 refl refl (omega arith)
-    (last size seed 263 2 refl) (omega arith, omega arith, (omega (arith, ints), omega (arith, ints))) free_17 refl in
+    (last size seed 263 2 refl) free_17 refl in
     let s2 =
     compute start code (n + 1) 264 0 s1.0 (Addi 10 0 (pos 0)) 10 0 (n + 2) 265 (omega arith) refl (omega arith)
-    (last size seed 264 3 refl) (omega arith, omega arith, (omega (arith, ints), omega (arith, ints))) free_10 refl in
+    (last size seed 264 3 refl) free_10 refl in
     let now : State = s2.0.state in
     let number : slice_index now.regs 17 ≡ 93 =
     ap (λ (r : List ℕ). slice_index r 17) s2.1
@@ -189,6 +191,6 @@ exits_at_end start size seed n s =
     let answer : slice_index now.regs 10 ≡ 0 =
     ap (λ (r : List ℕ). slice_index r 10) s2.1
     ∙ read_new s1.0.state.regs 10 0 (omega arith) (omega (arith, s1.0.within.size)) in
-    let ready = ready_at code 265 0 now Ecall s2.0.within (omega arith) (last size seed 265 4 refl) tt in
+    let ready = ready_at code 265 0 now Ecall s2.0.within (omega arith) (last size seed 265 4 refl) in
     let end = exits_with now 0 ready number answer in
     (s2.0.at.before, (end.0, end.1, ap next s2.0.at.state ∙ end.2, end.3))
