@@ -107,7 +107,7 @@ wrote code place turns rd value k now within below one free = record {
   mapped = within.mapped;
 }
 
-came :
+pub came :
     (start now after : State) (n m : ℕ)
     → IsAt start n now → now.exit ≡ None → Leads now after → m ≡ n + 1 → IsAt start m after
 came start now after n m at running leads one =
