@@ -42,15 +42,16 @@ step start code n now i rd value at bare below is does =
       running = bare.running;
       word = rw (bare.pc, bare.words n below, is) refl;
       used = rw (← is) (bare.used n below);
-    } in
-    (came start now (after now rd value) n (n + 1) at bare.running (computed now i rd value ready does) refl,
-    record {
-      pc = next_pc now.pc n (n + 1) bare.pc below refl;
-      running = bare.running;
-      words = bare.words;
-      used = bare.used;
-      mapped = bare.mapped;
-    })
+    } in (
+      came start now (after now rd value) n (n + 1) at bare.running (computed now i rd value ready does) refl,
+      record {
+        pc = next_pc now.pc n (n + 1) bare.pc below refl;
+        running = bare.running;
+        words = bare.words;
+        used = bare.used;
+        mapped = bare.mapped;
+      },
+    )
 
 -- the counter is loaded in two parts
 in_parts :

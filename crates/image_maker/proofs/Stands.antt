@@ -132,12 +132,14 @@ pub compute :
 compute start code n place turns stands i rd value m k more one below is free does =
     let now = stands.state in
     let within = stands.within in
-    let leads = computed now i rd value (ready_at code place turns now i within below is) does in
-    (record {
-      state = record now { regs = write now.regs rd value; pc = following now.pc };
-      at = came start now _ n m stands.at within.running leads more;
-      within = wrote code place turns rd value k now within below one free;
-    }, refl)
+    let leads = computed now i rd value (ready_at code place turns now i within below is) does in (
+      record {
+        state = record now { regs = write now.regs rd value; pc = following now.pc };
+        at = came start now _ n m stands.at within.running leads more;
+        within = wrote code place turns rd value k now within below one free;
+      },
+      refl,
+    )
 
 some_of : (o : Option ℕ) → IsSome o → (w : ℕ) × (o ≡ Some w)
 some_of (Some w) is = (w, refl)

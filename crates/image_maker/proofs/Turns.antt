@@ -161,9 +161,12 @@ exits_with :
 unfolding exits
 exits_with now code ready number is =
     let exited : State = record now { exit = Some (slice_index now.regs 10) } in
-    let to = goes_on_to exited Ecall None in
-    (to.0, record exited { pc = following now.pc },
-    does now Ecall ready ∙ calls_exit now (word_of Ecall) Ecall number ∙ to.1, ap Some is)
+    let to = goes_on_to exited Ecall None in (
+      to.0,
+      record exited { pc = following now.pc },
+      does now Ecall ready ∙ calls_exit now (word_of Ecall) Ecall number ∙ to.1,
+      ap Some is,
+    )
 
 -- behind the last turn come three instructions, and the last of them exits
 pub exits_at_end :

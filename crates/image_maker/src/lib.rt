@@ -5,8 +5,10 @@
 mod assembly;
 mod choice;
 mod image;
+mod laws;
 mod program;
 #[cfg(test)]
 mod tests;
 
 pub use image::make_image;
+pub use laws::runs_to_its_end;
