@@ -1,4 +1,8 @@
+ghost use Rattle.std.specs.Prelude.{◌≡◌, None, IfSome};
+
 use super::*;
+use elf_image::read_image;
+use rv_machine::{Outcome, Whole};
 use std::alloc::Global;
 
 /// A number that tells files apart: the 32-bit FNV-1a hash.
@@ -169,6 +173,37 @@ fn files(rt: HostRuntime) {
             for (k, expected) in words.into_iter().enumerate() {
                 let found = word(&file, 128 + 4 * k);
                 assert_eq!(rt; found, Some(expected), "at {size} {seed}");
+            }
+        }
+    }
+}
+
+/// A machine that is to run the program of a file.
+#[tactic(auto, unfolding(rv_machine::specs::Start::start_of))]
+fn machine_of(alloc: Global, file: &[u8]) -> Option<Whole>
+    ensures { IfSome result (λ machine. machine.state.exit ≡ None) }
+{
+    let image = read_image(alloc, file).ok()?;
+    Whole::new(alloc, &image, false).ok()
+}
+
+/// Runs to the exit, and with a budget of one instruction less.
+#[test]
+fn runs(rt: HostRuntime) {
+    for (size, seed, length) in [(1, 5, 266), (3, 6, 782), (40, u64::MAX, 10_328)] {
+        let file = made(rt.alloc(), size, seed);
+        assert!(rt; file.is_some(), "at {size} {seed}");
+        if let Some(file) = file {
+            for (budget, outcome) in [
+                (length, Outcome::Exited { code: 0, length }),
+                (length - 1, Outcome::Spent),
+            ] {
+                let machine = machine_of(rt.alloc(), &file);
+                assert!(rt; machine.is_some(), "at {size} {seed}");
+                if let Some(mut machine) = machine {
+                    let ended = machine.run(budget);
+                    assert_eq!(rt; ended, Ok(outcome), "at {size} {seed}");
+                }
             }
         }
     }
