@@ -1,0 +1,4 @@
+pub mod Choice
+pub mod Image
+pub mod Program
+pub mod Runs
