@@ -15,121 +15,125 @@ pub record Key : Type 0 where
 abbrev pub key : List ℕ → List ℕ → Form → Key
 key name letters form = record { name = name; letters = letters; form = form }
 
--- s is the letter of `sample`, r of `run`; a number has its least, its greatest and its default
+-- s is the letter of `sample`, r of `run`, d of `demo`; a number has its least, its greatest and its default
 abbrev pub unit_key : Key
-unit_key = key (codes "unit") (codes "s") (Number 16 10000 1000)
+unit_key = key (codes "unit") (codes "sd") (Number 16 10000 1000)
 
 abbrev pub warm_key : Key
-warm_key = key (codes "warm") (codes "s") (Number 0 100000 2000)
+warm_key = key (codes "warm") (codes "sd") (Number 0 100000 2000)
 
 abbrev pub every_key : Key
-every_key = key (codes "every") (codes "s") (Number 1 1000000 100)
+every_key = key (codes "every") (codes "sd") (Number 1 1000000 100)
 
 abbrev pub offset_key : Key
-offset_key = key (codes "offset") (codes "s") (Number 0 999999 0)
+offset_key = key (codes "offset") (codes "sd") (Number 0 999999 0)
 
 abbrev pub seed_key : Key
-seed_key = key (codes "seed") (codes "s") (Number 0 (10 ^ 18) 1)
+seed_key = key (codes "seed") (codes "sd") (Number 0 (10 ^ 18) 1)
 
 abbrev pub budget_key : Key
-budget_key = key (codes "budget") (codes "sr") (Number 1 (2 ^ 36) (10 ^ 9))
+budget_key = key (codes "budget") (codes "srd") (Number 1 (2 ^ 36) (10 ^ 9))
 
 abbrev pub min_key : Key
-min_key = key (codes "min") (codes "s") (Number 2 65536 30)
+min_key = key (codes "min") (codes "sd") (Number 2 65536 30)
 
 abbrev pub z_key : Key
-z_key = key (codes "z") (codes "s") (Number 1 4000 3000)
+z_key = key (codes "z") (codes "sd") (Number 1 4000 3000)
 
 abbrev pub error_key : Key
-error_key = key (codes "error") (codes "s") (Number 1 5000 300)
+error_key = key (codes "error") (codes "sd") (Number 1 5000 300)
 
 -- the default is `ruu`
 abbrev pub machine_key : Key
-machine_key = key (codes "machine") (codes "s") (Machine true)
+machine_key = key (codes "machine") (codes "sd") (Machine true)
 
 -- lines of 64 bytes in 64 sets of 4 ways; the sizes are told by their logarithms to base 2
 abbrev pub l1i_key : Key
-l1i_key = key (codes "l1i") (codes "s") (Cache 6 6 4)
+l1i_key = key (codes "l1i") (codes "sd") (Cache 6 6 4)
 
 abbrev pub l1d_key : Key
-l1d_key = key (codes "l1d") (codes "s") (Cache 6 6 4)
+l1d_key = key (codes "l1d") (codes "sd") (Cache 6 6 4)
 
 abbrev pub l2_key : Key
-l2_key = key (codes "l2") (codes "s") (Cache 6 9 8)
+l2_key = key (codes "l2") (codes "sd") (Cache 6 9 8)
 
 -- 8 sets of 4 ways
 abbrev pub itlb_key : Key
-itlb_key = key (codes "itlb") (codes "s") (Tlb 3 4)
+itlb_key = key (codes "itlb") (codes "sd") (Tlb 3 4)
 
 abbrev pub dtlb_key : Key
-dtlb_key = key (codes "dtlb") (codes "s") (Tlb 4 4)
+dtlb_key = key (codes "dtlb") (codes "sd") (Tlb 4 4)
 
 abbrev pub predictor_key : Key
-predictor_key = key (codes "predictor") (codes "s") (Kind (record { scheme = Gshare; bits = 12; target_log = 9; depth = 8 }))
+predictor_key = key (codes "predictor") (codes "sd") (Kind (record { scheme = Gshare; bits = 12; target_log = 9; depth = 8 }))
 
 abbrev pub fetch_key : Key
-fetch_key = key (codes "fetch") (codes "s") (Number 1 8 4)
+fetch_key = key (codes "fetch") (codes "sd") (Number 1 8 4)
 
 abbrev pub dispatch_key : Key
-dispatch_key = key (codes "dispatch") (codes "s") (Number 1 8 4)
+dispatch_key = key (codes "dispatch") (codes "sd") (Number 1 8 4)
 
 abbrev pub issue_key : Key
-issue_key = key (codes "issue") (codes "s") (Number 1 8 4)
+issue_key = key (codes "issue") (codes "sd") (Number 1 8 4)
 
 abbrev pub retire_key : Key
-retire_key = key (codes "retire") (codes "s") (Number 1 8 4)
+retire_key = key (codes "retire") (codes "sd") (Number 1 8 4)
 
 abbrev pub queue_key : Key
-queue_key = key (codes "queue") (codes "s") (Number 1 32 8)
+queue_key = key (codes "queue") (codes "sd") (Number 1 32 8)
 
 abbrev pub ruu_key : Key
-ruu_key = key (codes "ruu") (codes "s") (Number 4 256 32)
+ruu_key = key (codes "ruu") (codes "sd") (Number 4 256 32)
 
 abbrev pub lsq_key : Key
-lsq_key = key (codes "lsq") (codes "s") (Number 2 128 16)
+lsq_key = key (codes "lsq") (codes "sd") (Number 2 128 16)
 
 abbrev pub penalty_key : Key
-penalty_key = key (codes "penalty") (codes "s") (Number 1 64 6)
+penalty_key = key (codes "penalty") (codes "sd") (Number 1 64 6)
 
 abbrev pub alus_key : Key
-alus_key = key (codes "alus") (codes "s") (Number 1 8 4)
+alus_key = key (codes "alus") (codes "sd") (Number 1 8 4)
 
 abbrev pub muls_key : Key
-muls_key = key (codes "muls") (codes "s") (Number 1 8 1)
+muls_key = key (codes "muls") (codes "sd") (Number 1 8 1)
 
 abbrev pub divs_key : Key
-divs_key = key (codes "divs") (codes "s") (Number 1 8 1)
+divs_key = key (codes "divs") (codes "sd") (Number 1 8 1)
 
 abbrev pub loads_key : Key
-loads_key = key (codes "loads") (codes "s") (Number 1 8 2)
+loads_key = key (codes "loads") (codes "sd") (Number 1 8 2)
 
 abbrev pub stores_key : Key
-stores_key = key (codes "stores") (codes "s") (Number 1 8 1)
+stores_key = key (codes "stores") (codes "sd") (Number 1 8 1)
 
 abbrev pub branches_key : Key
-branches_key = key (codes "branches") (codes "s") (Number 1 8 1)
+branches_key = key (codes "branches") (codes "sd") (Number 1 8 1)
 
 abbrev pub mullat_key : Key
-mullat_key = key (codes "mullat") (codes "s") (Number 1 16 3)
+mullat_key = key (codes "mullat") (codes "sd") (Number 1 16 3)
 
 abbrev pub divlat_key : Key
-divlat_key = key (codes "divlat") (codes "s") (Number 1 64 20)
+divlat_key = key (codes "divlat") (codes "sd") (Number 1 64 20)
 
 abbrev pub l1lat_key : Key
-l1lat_key = key (codes "l1lat") (codes "s") (Number 1 16 2)
+l1lat_key = key (codes "l1lat") (codes "sd") (Number 1 16 2)
 
 abbrev pub l2lat_key : Key
-l2lat_key = key (codes "l2lat") (codes "s") (Number 1 100 10)
+l2lat_key = key (codes "l2lat") (codes "sd") (Number 1 100 10)
 
 abbrev pub memlat_key : Key
-memlat_key = key (codes "memlat") (codes "s") (Number 1 1000 100)
+memlat_key = key (codes "memlat") (codes "sd") (Number 1 1000 100)
 
 abbrev pub tlblat_key : Key
-tlblat_key = key (codes "tlblat") (codes "s") (Number 0 200 30)
+tlblat_key = key (codes "tlblat") (codes "sd") (Number 0 200 30)
+
+-- its default is never read: `demo` without a size is at fault
+abbrev pub size_key : Key
+size_key = key (codes "size") (codes "d") (Number 1 1000000 1)
 
 unfoldable pub keys : List Key
 keys =
-    unit_key ∷ warm_key ∷ every_key ∷ offset_key ∷ seed_key ∷ budget_key ∷ min_key ∷ z_key ∷ error_key ∷ machine_key ∷ l1i_key ∷ l1d_key ∷ l2_key ∷ itlb_key ∷ dtlb_key ∷ predictor_key ∷ fetch_key ∷ dispatch_key ∷ issue_key ∷ retire_key ∷ queue_key ∷ ruu_key ∷ lsq_key ∷ penalty_key ∷ alus_key ∷ muls_key ∷ divs_key ∷ loads_key ∷ stores_key ∷ branches_key ∷ mullat_key ∷ divlat_key ∷ l1lat_key ∷ l2lat_key ∷ memlat_key ∷ tlblat_key ∷ []
+    unit_key ∷ warm_key ∷ every_key ∷ offset_key ∷ seed_key ∷ budget_key ∷ min_key ∷ z_key ∷ error_key ∷ machine_key ∷ l1i_key ∷ l1d_key ∷ l2_key ∷ itlb_key ∷ dtlb_key ∷ predictor_key ∷ fetch_key ∷ dispatch_key ∷ issue_key ∷ retire_key ∷ queue_key ∷ ruu_key ∷ lsq_key ∷ penalty_key ∷ alus_key ∷ muls_key ∷ divs_key ∷ loads_key ∷ stores_key ∷ branches_key ∷ mullat_key ∷ divlat_key ∷ l1lat_key ∷ l2lat_key ∷ memlat_key ∷ tlblat_key ∷ size_key ∷ []
 
 -- the key has this name, and the command with this letter has the key
 abbrev pub is_key : ℕ → List ℕ → Key → Bool

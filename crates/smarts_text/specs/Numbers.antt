@@ -30,6 +30,7 @@ word_number kinds.UnknownKey = 3
 word_number kinds.Repeated = 4
 word_number kinds.BadValue = 5
 word_number kinds.OutOfRange = 6
+word_number kinds.Missing = 7
 word_number kinds.LsqOverRuu = 8
 word_number kinds.OffsetNotBelowEvery = 9
 

@@ -11,6 +11,13 @@ pub enum Command {
         config: Config,
         test: Test,
     },
+    /// To simulate a sample of the run of a generated program, of this size from 1 to 1,000,000.
+    Demo {
+        size: u32,
+        design: Design,
+        config: Config,
+        test: Test,
+    },
     /// To run the program, for at most `budget` instructions, from 1 to 2^36.
     Run {
         budget: u64,

@@ -25,39 +25,39 @@ pub enum Form {
 #[derive(Clone, Copy, Debug)]
 pub struct Row(pub &'static str, pub &'static [u8], pub Form);
 
-pub const UNIT: Row = Row("unit", b"s", Form::Number(16, 10_000, 1000));
+pub const UNIT: Row = Row("unit", b"sd", Form::Number(16, 10_000, 1000));
 
-pub const WARM: Row = Row("warm", b"s", Form::Number(0, 100_000, 2000));
+pub const WARM: Row = Row("warm", b"sd", Form::Number(0, 100_000, 2000));
 
-pub const EVERY: Row = Row("every", b"s", Form::Number(1, 1_000_000, 100));
+pub const EVERY: Row = Row("every", b"sd", Form::Number(1, 1_000_000, 100));
 
-pub const OFFSET: Row = Row("offset", b"s", Form::Number(0, 999_999, 0));
+pub const OFFSET: Row = Row("offset", b"sd", Form::Number(0, 999_999, 0));
 
-pub const SEED: Row = Row("seed", b"s", Form::Number(0, 1_000_000_000_000_000_000, 1));
+pub const SEED: Row = Row("seed", b"sd", Form::Number(0, 1_000_000_000_000_000_000, 1));
 
-pub const BUDGET: Row = Row("budget", b"sr", Form::Number(1, 1 << 36, 1_000_000_000));
+pub const BUDGET: Row = Row("budget", b"srd", Form::Number(1, 1 << 36, 1_000_000_000));
 
-pub const MIN: Row = Row("min", b"s", Form::Number(2, 65_536, 30));
+pub const MIN: Row = Row("min", b"sd", Form::Number(2, 65_536, 30));
 
-pub const Z: Row = Row("z", b"s", Form::Number(1, 4000, 3000));
+pub const Z: Row = Row("z", b"sd", Form::Number(1, 4000, 3000));
 
-pub const ERROR: Row = Row("error", b"s", Form::Number(1, 5000, 300));
+pub const ERROR: Row = Row("error", b"sd", Form::Number(1, 5000, 300));
 
-pub const MACHINE: Row = Row("machine", b"s", Form::Machine(true));
+pub const MACHINE: Row = Row("machine", b"sd", Form::Machine(true));
 
-pub const L1I: Row = Row("l1i", b"s", Form::Cache(6, 6, 4));
+pub const L1I: Row = Row("l1i", b"sd", Form::Cache(6, 6, 4));
 
-pub const L1D: Row = Row("l1d", b"s", Form::Cache(6, 6, 4));
+pub const L1D: Row = Row("l1d", b"sd", Form::Cache(6, 6, 4));
 
-pub const L2: Row = Row("l2", b"s", Form::Cache(6, 9, 8));
+pub const L2: Row = Row("l2", b"sd", Form::Cache(6, 9, 8));
 
-pub const ITLB: Row = Row("itlb", b"s", Form::Tlb(3, 4));
+pub const ITLB: Row = Row("itlb", b"sd", Form::Tlb(3, 4));
 
-pub const DTLB: Row = Row("dtlb", b"s", Form::Tlb(4, 4));
+pub const DTLB: Row = Row("dtlb", b"sd", Form::Tlb(4, 4));
 
 pub const PREDICTOR: Row = Row(
     "predictor",
-    b"s",
+    b"sd",
     Form::Kind(PredictorKind {
         scheme: Scheme::Gshare,
         bits: 12,
@@ -66,45 +66,48 @@ pub const PREDICTOR: Row = Row(
     }),
 );
 
-pub const FETCH: Row = Row("fetch", b"s", Form::Number(1, 8, 4));
+pub const FETCH: Row = Row("fetch", b"sd", Form::Number(1, 8, 4));
 
-pub const DISPATCH: Row = Row("dispatch", b"s", Form::Number(1, 8, 4));
+pub const DISPATCH: Row = Row("dispatch", b"sd", Form::Number(1, 8, 4));
 
-pub const ISSUE: Row = Row("issue", b"s", Form::Number(1, 8, 4));
+pub const ISSUE: Row = Row("issue", b"sd", Form::Number(1, 8, 4));
 
-pub const RETIRE: Row = Row("retire", b"s", Form::Number(1, 8, 4));
+pub const RETIRE: Row = Row("retire", b"sd", Form::Number(1, 8, 4));
 
-pub const QUEUE: Row = Row("queue", b"s", Form::Number(1, 32, 8));
+pub const QUEUE: Row = Row("queue", b"sd", Form::Number(1, 32, 8));
 
-pub const RUU: Row = Row("ruu", b"s", Form::Number(4, 256, 32));
+pub const RUU: Row = Row("ruu", b"sd", Form::Number(4, 256, 32));
 
-pub const LSQ: Row = Row("lsq", b"s", Form::Number(2, 128, 16));
+pub const LSQ: Row = Row("lsq", b"sd", Form::Number(2, 128, 16));
 
-pub const PENALTY: Row = Row("penalty", b"s", Form::Number(1, 64, 6));
+pub const PENALTY: Row = Row("penalty", b"sd", Form::Number(1, 64, 6));
 
-pub const ALUS: Row = Row("alus", b"s", Form::Number(1, 8, 4));
+pub const ALUS: Row = Row("alus", b"sd", Form::Number(1, 8, 4));
 
-pub const MULS: Row = Row("muls", b"s", Form::Number(1, 8, 1));
+pub const MULS: Row = Row("muls", b"sd", Form::Number(1, 8, 1));
 
-pub const DIVS: Row = Row("divs", b"s", Form::Number(1, 8, 1));
+pub const DIVS: Row = Row("divs", b"sd", Form::Number(1, 8, 1));
 
-pub const LOADS: Row = Row("loads", b"s", Form::Number(1, 8, 2));
+pub const LOADS: Row = Row("loads", b"sd", Form::Number(1, 8, 2));
 
-pub const STORES: Row = Row("stores", b"s", Form::Number(1, 8, 1));
+pub const STORES: Row = Row("stores", b"sd", Form::Number(1, 8, 1));
 
-pub const BRANCHES: Row = Row("branches", b"s", Form::Number(1, 8, 1));
+pub const BRANCHES: Row = Row("branches", b"sd", Form::Number(1, 8, 1));
 
-pub const MULLAT: Row = Row("mullat", b"s", Form::Number(1, 16, 3));
+pub const MULLAT: Row = Row("mullat", b"sd", Form::Number(1, 16, 3));
 
-pub const DIVLAT: Row = Row("divlat", b"s", Form::Number(1, 64, 20));
+pub const DIVLAT: Row = Row("divlat", b"sd", Form::Number(1, 64, 20));
 
-pub const L1LAT: Row = Row("l1lat", b"s", Form::Number(1, 16, 2));
+pub const L1LAT: Row = Row("l1lat", b"sd", Form::Number(1, 16, 2));
 
-pub const L2LAT: Row = Row("l2lat", b"s", Form::Number(1, 100, 10));
+pub const L2LAT: Row = Row("l2lat", b"sd", Form::Number(1, 100, 10));
 
-pub const MEMLAT: Row = Row("memlat", b"s", Form::Number(1, 1000, 100));
+pub const MEMLAT: Row = Row("memlat", b"sd", Form::Number(1, 1000, 100));
 
-pub const TLBLAT: Row = Row("tlblat", b"s", Form::Number(0, 200, 30));
+pub const TLBLAT: Row = Row("tlblat", b"sd", Form::Number(0, 200, 30));
+
+// The default is never read: `demo` without a size is at fault.
+pub const SIZE: Row = Row("size", b"d", Form::Number(1, 1_000_000, 1));
 
 #[tactic(auto, unfolding(crate::specs::Keys::keys))]
 fn rows() -> &'static [Row]
@@ -113,7 +116,7 @@ fn rows() -> &'static [Row]
     &[
         UNIT, WARM, EVERY, OFFSET, SEED, BUDGET, MIN, Z, ERROR, MACHINE, L1I, L1D, L2, ITLB, DTLB,
         PREDICTOR, FETCH, DISPATCH, ISSUE, RETIRE, QUEUE, RUU, LSQ, PENALTY, ALUS, MULS, DIVS,
-        LOADS, STORES, BRANCHES, MULLAT, DIVLAT, L1LAT, L2LAT, MEMLAT, TLBLAT,
+        LOADS, STORES, BRANCHES, MULLAT, DIVLAT, L1LAT, L2LAT, MEMLAT, TLBLAT, SIZE,
     ]
 }
 

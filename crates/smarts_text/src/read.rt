@@ -3,13 +3,13 @@ ghost use Rattle.smarts_base.specs.Outcome.{Answers};
 ghost use Rattle.smarts_text.specs.Asked.{number_in};
 ghost use Rattle.smarts_text.specs.Checks.{IsSound};
 ghost use Rattle.smarts_text.specs.Keys as key_specs;
-ghost use Rattle.smarts_text.specs.Meaning.{command_in, job_of, late_fault, letter_of, meaning, refused};
+ghost use Rattle.smarts_text.specs.Meaning.{command_in, is_missing, job_of, late_fault, letter_of, meaning, refused};
 
 use crate::asked::{design, number, test};
 use crate::command::Command;
 use crate::configured::config;
 use crate::keys;
-use crate::words::fault_among;
+use crate::words::{fault_among, given};
 use smarts_base::Refusal;
 
 /// What is wrong with a command line.
@@ -35,6 +35,8 @@ pub enum WordKind {
     BadValue = 5,
     /// The value is in the key's form and outside its range.
     OutOfRange = 6,
+    /// `demo` has no size.
+    Missing = 7,
     /// The load and store queue has more places than the register update unit.
     LsqOverRuu = 8,
     /// The offset isn't below `every`.
@@ -46,6 +48,7 @@ pub enum WordKind {
 enum Job {
     Sample,
     Run,
+    Demo,
 }
 
 fn job_named(name: &str) -> Option<Job>
@@ -54,6 +57,7 @@ fn job_named(name: &str) -> Option<Job>
     match name {
         "sample" => Some(Job::Sample),
         "run" => Some(Job::Run),
+        "demo" => Some(Job::Demo),
         _ => None,
     }
 }
@@ -64,15 +68,25 @@ fn letter(job: Job) -> u8
     match job {
         Job::Sample => b's',
         Job::Run => b'r',
+        Job::Demo => b'd',
     }
 }
 
+fn is_missing(job: Job, words: &[String]) -> bool
+    ensures { result ≡ is_missing job (map string_bytes words.now) }
+{
+    job == Job::Demo && given(keys::SIZE.0, words).is_none()
+}
+
 #[tactic(auto, unfolding(crate::specs::Meaning::late_fault))]
-fn late_fault(words: &[String]) -> Option<WordKind>
-    ensures value { result ≡ late_fault (map string_bytes words.now) }
+fn late_fault(job: Job, words: &[String]) -> Option<WordKind>
+    ensures value { result ≡ late_fault job (map string_bytes words.now) }
     ensures lsq { result ≡ None → number_in (map string_bytes words.now) key_specs.lsq_key ≤ number_in (map string_bytes words.now) key_specs.ruu_key }
     ensures offset { result ≡ None → number_in (map string_bytes words.now) key_specs.offset_key < number_in (map string_bytes words.now) key_specs.every_key }
 {
+    if is_missing(job, words) {
+        return Some(WordKind::Missing);
+    }
     if number(words, &keys::RUU) < number(words, &keys::LSQ) {
         return Some(WordKind::LsqOverRuu);
     }
@@ -91,6 +105,12 @@ fn command(job: Job, words: &[String]) -> Command
 {
     match job {
         Job::Sample => Command::Sample {
+            design: design(words),
+            config: config(words),
+            test: test(words),
+        },
+        Job::Demo => Command::Demo {
+            size: number(words, &keys::SIZE) as u32,
             design: design(words),
             config: config(words),
             test: test(words),
@@ -128,7 +148,7 @@ pub fn read_words(words: &[String]) -> Result<Command, Refusal<WordFault>>
     if let Some((place, kind)) = fault_among(letter(job), words) {
         return refuse(kind, place + 1);
     }
-    if let Some(kind) = late_fault(words) {
+    if let Some(kind) = late_fault(job, words) {
         return refuse(kind, words.len() + 1);
     }
     Ok(command(job, words))

@@ -127,6 +127,15 @@ fn names_the_first_fault(rt: HostRuntime) -> Result<(), Fail> {
         ("sample lsq=1", WordKind::OutOfRange, 1),
         ("sample tlblat=201", WordKind::OutOfRange, 1),
         ("sample workers=1", WordKind::UnknownKey, 1),
+        ("sample size=1", WordKind::UnknownKey, 1),
+        ("demo", WordKind::Missing, 1),
+        ("demo lsq=33 offset=1 every=1", WordKind::Missing, 4),
+        ("demo size=1 lsq=33", WordKind::LsqOverRuu, 3),
+        ("demo size=1 offset=100", WordKind::OffsetNotBelowEvery, 3),
+        ("demo size=0", WordKind::OutOfRange, 1),
+        ("demo size=1000001", WordKind::OutOfRange, 1),
+        ("demo size=", WordKind::BadValue, 1),
+        ("demo size=1 size=1", WordKind::Repeated, 2),
         ("run ruu=32", WordKind::UnknownKey, 1),
     ] {
         expect(&rt, line, Err((kind, place)))?;
@@ -347,6 +356,24 @@ fn reads_commands(rt: HostRuntime) -> Result<(), Fail> {
             },
         ),
         ("run budget=1", Command::Run { budget: 1 }),
+        (
+            "demo size=1",
+            Command::Demo {
+                size: 1,
+                design,
+                config: usual_config()?,
+                test,
+            },
+        ),
+        (
+            "demo machine=ruu size=1000000",
+            Command::Demo {
+                size: 1_000_000,
+                design,
+                config: usual_config()?,
+                test,
+            },
+        ),
         ("run budget=68719476736", Command::Run { budget: 1 << 36 }),
     ] {
         expect(&rt, line, Ok(command))?;

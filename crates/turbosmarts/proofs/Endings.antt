@@ -1,30 +1,31 @@
 -- An end of a call as the answer to its words.
-use Rattle.std.proofs.Common.{◌≡◌, ℕ, List, [], Option, Some, None, IfSome, Result, Ok, Err, refl, sym, ap, subst}
+use Rattle.std.proofs.Common.{◌≡◌, ◌<◌, ℕ, List, [], length, take, Option, Some, None, IfSome, Result, Ok, Err, refl, sym, ap, subst}
 use mathlib.Core.Path.{fun_ext}
 use Rattle.smarts_io.specs.Bytes.{Gives, Takes}
 use Rattle.smarts_io.proofs.Pieces.{takes_none}
 use Rattle.smarts_text.specs.declared.command.Command.{Command}
+use Rattle.smarts_text.specs.declared.command.Command.TheVariants.{Sample, Demo, Run}
 use Rattle.smarts_text.specs.declared.read.WordFault.{WordFault}
 use Rattle.smarts_text.specs.declared.status.Status.{Status}
 use Rattle.smarts_text.specs.declared.status.Status.TheVariants as statuses
 use Rattle.smarts_text.specs.Meaning.{meaning}
 use Rattle.smarts_text.specs.Texts.{fault_line}
-use Rattle.turbosmarts.specs.Answer.{Answer, answer, answer_to, done_or_refused, written_by, taken_in}
+use Rattle.turbosmarts.specs.Answer.{Answer, answer, answer_to, done_or_refused, written_by, taken_in, ReadsInput, AsksForInput}
 use Rattle.turbosmarts.specs.declared.ending.Exit.{Exit}
-use Rattle.turbosmarts.specs.Ends.{Change, EndsAs, told_of}
+use Rattle.turbosmarts.specs.Ends.{Change, EndsAs, GivesAnswer, told_of}
 use Rattle.turbosmarts.specs.Writtens.{told_of_exit}
 
 -- where the words are accepted, the answer to them is that of their command
 pub ends_accepted :
     (words : List (List ℕ)) (command : Command) (source sink : Change) (result : Status) (told : List ℕ)
     → meaning words ≡ Ok command
-    → EndsAs (λ input. done_or_refused (written_by command input)) source sink result told
-    → EndsAs (answer words) source sink result told
+    → EndsAs (λ input. done_or_refused (written_by command input)) (ReadsInput command) source sink result told
+    → EndsAs (answer words) (AsksForInput (meaning words)) source sink result told
 unfolding answer
 ends_accepted words command source sink result told is ends =
     let same : (input : List ℕ) → done_or_refused (written_by command input) ≡ answer words input =
     λ input. ap (λ (c : Result Command WordFault). answer_to c input) (sym is) in
-    subst (λ (f : List ℕ → Answer). EndsAs f source sink result told) (fun_ext same) ends
+    rw is (subst (λ (f : List ℕ → Answer). EndsAs f (ReadsInput command) source sink result told) (fun_ext same) ends)
 
 told_always :
     (P : List ℕ → Type 0) (told : Option (List ℕ)) → ((input : List ℕ) → P input)
@@ -36,9 +37,10 @@ told_always P (Some input) holds = holds (taken_in input)
 pub ends_refused :
     (words : List (List ℕ)) (fault : WordFault) (source sink : Change)
     → meaning words ≡ Err fault → sink.after ≡ sink.before
-    → EndsAs (answer words) source sink (statuses.BadWords fault) (fault_line (statuses.BadWords fault))
+    → source.after ≡ source.before → source.faults_after ≡ source.faults_before
+    → EndsAs (answer words) (AsksForInput (meaning words)) source sink (statuses.BadWords fault) (fault_line (statuses.BadWords fault))
 unfolding answer
-ends_refused words fault source sink is same =
+ends_refused words fault source sink is same unread unread_count =
     let refused : (input : List ℕ) → answer_to (Err fault) input ≡ answer words input =
     λ input. ap (λ (c : Result Command WordFault). answer_to c input) (sym is) in
     record {
@@ -49,6 +51,7 @@ ends_refused words fault source sink is same =
           let nothing : Takes sink.before [] sink.after =
           subst (λ (o : Option (List ℕ)). Takes sink.before [] o) (sym same) (takes_none sink.before) in
           subst (λ (b : List ℕ). Takes sink.before b sink.after) (ap (λ (a : Answer). a.bytes) (refused i)) nothing);
+      read_reads = λ e. cc;
       read_cause = λ e. cc;
       read_nothing = λ e. cc;
       write_cause = λ taken e. cc;
@@ -56,7 +59,9 @@ ends_refused words fault source sink is same =
       write_front = λ taken e. cc;
       write_short = λ taken e. cc;
       no_memory = λ e. cc;
-      all_read = λ d. absurd d;
+      all_read = λ reads d. absurd d;
+      unread = λ idle. unread;
+      unread_count = λ idle. unread_count;
       told_fault = λ d. refl;
       told_done = λ e. cc;
     }
@@ -68,26 +73,59 @@ told_holds :
 told_holds P None bytes is holds = tt
 told_holds P (Some input) bytes is holds = subst P is holds
 
--- a call is done that took in the input and wrote the whole answer to it
-pub ends_done :
-    (expected : List ℕ → Answer) (source sink : Change) (bytes told : List ℕ)
+-- a call that took in the input and gave the answer to it
+pub ends_read :
+    (expected : List ℕ → Answer) (reads : Type 0) (source sink : Change) (bytes : List ℕ) (result : Status) (told : List ℕ)
+    → reads
     → IfSome source.before (λ input. bytes ≡ taken_in input) → Gives source.before bytes source.after
-    → (expected bytes).status ≡ statuses.Done → Takes sink.before (expected bytes).bytes sink.after
-    → told ≡ (expected bytes).lines
-    → EndsAs expected source sink statuses.Done told
-ends_done expected source sink bytes told all given is_done wrote is_told = record {
-  status = λ d. told_holds (λ b. statuses.Done ≡ (expected b).status) source.before bytes all (sym is_done);
-  written = λ d. told_holds (λ b. Takes sink.before (expected b).bytes sink.after) source.before bytes all wrote;
-  read_cause = λ e. cc;
-  read_nothing = λ e. cc;
-  write_cause = λ taken e. cc;
-  write_done = λ taken e. cc;
-  write_front = λ taken e. cc;
-  write_short = λ taken e. cc;
-  no_memory = λ e. cc;
-  all_read = λ d. told_holds (λ b. Gives source.before b source.after) source.before bytes all given;
-  told_fault = λ d. absurd d;
-  told_done = λ e. told_holds (λ b. told ≡ (expected b).lines) source.before bytes all is_told;
+    → GivesAnswer (expected bytes) sink result told
+    → EndsAs expected reads source sink result told
+ends_read expected reads source sink bytes result told asks all given gives = record {
+  status = λ d. told_holds (λ b. result ≡ (expected b).status) source.before bytes all (gives.status d);
+  written = λ d. told_holds (λ b. Takes sink.before (expected b).bytes sink.after) source.before bytes all (gives.written d);
+  read_reads = λ e. asks;
+  read_cause = λ e. absurd (gives.no_read e);
+  read_nothing = λ e. absurd (gives.no_read e);
+  write_cause = gives.write_cause;
+  write_done = λ taken e. told_holds (λ b. (expected b).status ≡ statuses.Done) source.before bytes all (gives.write_done taken e);
+  write_front = λ taken e. told_holds (λ b. Takes sink.before (take taken (expected b).bytes) sink.after) source.before bytes all
+      (gives.write_front taken e);
+  write_short = λ taken e. told_holds (λ b. taken < length (expected b).bytes) source.before bytes all (gives.write_short taken e);
+  no_memory = gives.no_memory;
+  all_read = λ asked d. told_holds (λ b. Gives source.before b source.after) source.before bytes all given;
+  unread = λ idle. absurd (idle asks);
+  unread_count = λ idle. absurd (idle asks);
+  told_fault = gives.told_fault;
+  told_done = λ e. told_holds (λ b. told ≡ (expected b).lines) source.before bytes all (gives.told_done e);
+}
+
+-- a call whose answer depends on no input
+pub ends_unread :
+    (expected : List ℕ → Answer) (reads : Type 0) (source sink : Change) (given : Answer) (result : Status) (told : List ℕ)
+    → (reads → ⊥) → ((input : List ℕ) → expected input ≡ given)
+    → source.after ≡ source.before → source.faults_after ≡ source.faults_before
+    → GivesAnswer given sink result told
+    → EndsAs expected reads source sink result told
+ends_unread expected reads source sink given result told idle always unread unread_count gives = record {
+  status = λ d. told_always (λ b. result ≡ (expected b).status) source.before (λ b. rw (always b) (gives.status d));
+  written = λ d. told_always (λ b. Takes sink.before (expected b).bytes sink.after) source.before
+      (λ b. rw (always b) (gives.written d));
+  read_reads = λ e. absurd (gives.no_read e);
+  read_cause = λ e. absurd (gives.no_read e);
+  read_nothing = λ e. absurd (gives.no_read e);
+  write_cause = gives.write_cause;
+  write_done = λ taken e. told_always (λ b. (expected b).status ≡ statuses.Done) source.before
+      (λ b. rw (always b) (gives.write_done taken e));
+  write_front = λ taken e. told_always (λ b. Takes sink.before (take taken (expected b).bytes) sink.after) source.before
+      (λ b. rw (always b) (gives.write_front taken e));
+  write_short = λ taken e. told_always (λ b. taken < length (expected b).bytes) source.before
+      (λ b. rw (always b) (gives.write_short taken e));
+  no_memory = gives.no_memory;
+  all_read = λ asked d. absurd (idle asked);
+  unread = λ h. unread;
+  unread_count = λ h. unread_count;
+  told_fault = gives.told_fault;
+  told_done = λ e. told_always (λ b. told ≡ (expected b).lines) source.before (λ b. rw (always b) (gives.told_done e));
 }
 
 -- what is told of a call that is done is how the program exited that was run, if one was
@@ -99,7 +137,17 @@ told_when_done None = refl
 -- the end that refuses the words, with nothing to tell but the fault
 pub ends_with_fault :
     (words : List (List ℕ)) (fault : WordFault) (source sink : Change) (status : Status) (exit : Option Exit)
-    → meaning words ≡ Err fault → sink.after ≡ sink.before → status ≡ statuses.BadWords fault → exit ≡ None
-    → EndsAs (answer words) source sink status (told_of status exit)
-ends_with_fault words fault source sink status exit is same status_is exit_is =
-    rw (status_is, exit_is) (ends_refused words fault source sink is same)
+    → meaning words ≡ Err fault → sink.after ≡ sink.before
+    → source.after ≡ source.before → source.faults_after ≡ source.faults_before
+    → status ≡ statuses.BadWords fault → exit ≡ None
+    → EndsAs (answer words) (AsksForInput (meaning words)) source sink status (told_of status exit)
+ends_with_fault words fault source sink status exit is same unread unread_count status_is exit_is =
+    rw (status_is, exit_is) (ends_refused words fault source sink is same unread unread_count)
+
+-- a command that reads no input has one answer
+pub one_answer :
+    (command : Command) → (ReadsInput command → ⊥)
+    → (input : List ℕ) → done_or_refused (written_by command input) ≡ done_or_refused (written_by command [])
+one_answer (Sample design config test) idle input = absurd (idle tt)
+one_answer (Demo size design config test) idle input = refl
+one_answer (Run budget) idle input = absurd (idle tt)

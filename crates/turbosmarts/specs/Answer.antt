@@ -6,6 +6,7 @@ use Rattle.confidence.specs.declared.verdict.Test.{Test}
 use Rattle.elf_image.specs.declared.fault.ImageFault.{ImageFault}
 use Rattle.elf_image.specs.Image.{ImageValue, image_of}
 use Rattle.hierarchy.specs.declared.config.Config.{Config}
+use Rattle.image_maker.specs.Image.{image_file}
 use Rattle.ordered_fold.specs.Ending.{ending_of, sums_at_end}
 use Rattle.rv_machine.specs.declared.outcome.Outcome.{Outcome}
 use Rattle.rv_machine.specs.declared.outcome.Outcome.TheVariants.{Exited, Trapped, Spent}
@@ -18,7 +19,7 @@ use Rattle.sample_design.specs.Units.{units_of}
 use Rattle.smarts_base.specs.Outcome.{◌>>=◌}
 use Rattle.smarts_io.specs.Bytes.{cut_past}
 use Rattle.smarts_text.specs.declared.command.Command.{Command}
-use Rattle.smarts_text.specs.declared.command.Command.TheVariants.{Sample, Run}
+use Rattle.smarts_text.specs.declared.command.Command.TheVariants.{Sample, Demo, Run}
 use Rattle.smarts_text.specs.declared.status.DesignFault.TheVariants.{NoUnits, TooMany}
 use Rattle.smarts_text.specs.declared.status.Status.{Status}
 use Rattle.smarts_text.specs.declared.status.Status.TheVariants.{Done, BadWords}
@@ -85,7 +86,19 @@ run_of budget input = do
 
 abbrev pub written_by : Command → List ℕ → Result Written InputFault
 written_by (Sample design config test) input = sample_of design config test input
+written_by (Demo size design config test) input = sample_of design config test (image_file size design.seed)
 written_by (Run budget) input = run_of budget input
+
+-- `demo` makes its own input, and reads none
+abbrev pub ReadsInput : Command → Type 0
+ReadsInput (Sample design config test) = Unit {0}
+ReadsInput (Demo size design config test) = ⊥
+ReadsInput (Run budget) = Unit {0}
+
+-- the words ask for a command that reads the input
+abbrev pub AsksForInput : Result Command WordFault → Type 0
+AsksForInput (Ok command) = ReadsInput command
+AsksForInput (Err fault) = ⊥
 
 -- the status that a call ends with, and what it writes and tells where it is done
 pub record Answer : Type 0 where

@@ -27,6 +27,7 @@ use crate::scalar::Scalar;
 use confidence::Test;
 use elf_image::{Image, read_image};
 use hierarchy::Config;
+use image_maker::make_image;
 use rv_machine::{Outcome, Whole};
 use sample_design::{Design, UnitsFault, visit_order};
 use smarts_base::{NoMemory, Refusal};
@@ -55,6 +56,15 @@ pub fn written_by(
             config,
             test,
         } => sample(alloc, design, config, test, input),
+        Command::Demo {
+            size,
+            design,
+            config,
+            test,
+        } => {
+            let image = make_image(alloc, *size, design.seed)?;
+            sample(alloc, design, config, test, &image)
+        }
         Command::Run { budget } => run(alloc, *budget, input),
     }
 }

@@ -1,9 +1,9 @@
-ghost use Rattle.std.specs.Prelude.{◌≡◌, ◌<◌, ℕ, List, length, map, string_bytes, take, IfErr, IfSome, IsErr, IsOk};
+ghost use Rattle.std.specs.Prelude.{◌≡◌, ◌<◌, ℕ, List, length, map, string_bytes, take, IfErr, IfSome, IsErr};
 ghost use Rattle.smarts_io.specs.Bytes.{Gives, Takes};
 ghost use Rattle.smarts_io.specs.Causes.{Rose};
 ghost use Rattle.smarts_text.specs.Meaning.{meaning};
 ghost use Rattle.smarts_text.specs.Texts.{fault_line};
-ghost use Rattle.turbosmarts.specs.Answer.{answer, taken_in};
+ghost use Rattle.turbosmarts.specs.Answer.{AsksForInput, answer, taken_in};
 ghost use Rattle.turbosmarts.specs.Ends.{EndsAs, IsAllRead, IsBadWords, IsDetermined, IsFault, told_of};
 ghost use Rattle.turbosmarts.specs.Tells.{TakesFront};
 
@@ -19,9 +19,9 @@ use std::alloc::Global;
 /// input from the source, writes its answer to the sink, and tells a person about it by the lines.
 ///
 /// The answer to words and input is one function of both, whatever the source and the sinks are like. For
-/// `sample` it is the report of one thread that keeps the whole machine, takes the cycles of each unit from the
-/// trace of its window, and folds the units in the shuffled order until the test of confidence first holds or
-/// none is left.
+/// `sample` it is the report of one thread that keeps the whole machine, feeds plain caches and the predictor every
+/// instruction, times each unit's window from there, and folds the units in the shuffled order until the test of
+/// confidence first holds or none is left. `demo` is a sample of the program that is made from its size and seed.
 pub fn turbosmarts<S: Source, K: Sink, F: Sink>(
     alloc: Global,
     words: &[String],
@@ -38,8 +38,9 @@ pub fn turbosmarts<S: Source, K: Sink, F: Sink>(
         (result ≡ Status.NoMemory → ⊥) → result ≡ Status.BadWords fault) }
     ensures words_only { IsBadWords result → IsErr (meaning (map string_bytes words.now)) }
 
-    // A read fault comes only where the words are accepted and the source failed in this call.
-    ensures read_accepted { result ≡ Status.ReadFault → IsOk (meaning (map string_bytes words.now)) }
+    // A read fault comes only where the words ask for a command that reads the input, and the source failed in
+    // this call.
+    ensures read_accepted { result ≡ Status.ReadFault → AsksForInput (meaning (map string_bytes words.now)) }
     ensures read_cause { result ≡ Status.ReadFault → Rose (S.faults source.old) (S.faults source.new) }
     ensures read_nothing { result ≡ Status.ReadFault → K.taken sink.new ≡ K.taken sink.old }
 
@@ -58,11 +59,12 @@ pub fn turbosmarts<S: Source, K: Sink, F: Sink>(
     // For want of memory nothing was written.
     ensures no_memory { result ≡ Status.NoMemory → K.taken sink.new ≡ K.taken sink.old }
 
-    // The whole input was read, up to one byte past the limit, or for refused words none of it.
-    ensures all_read { IsAllRead result → IfSome (S.rest source.old) (λ input.
+    // The whole input was read, up to one byte past the limit, or none of it: for refused words, and where the
+    // command makes its own.
+    ensures all_read { AsksForInput (meaning (map string_bytes words.now)) → IsAllRead result → IfSome (S.rest source.old) (λ input.
         Gives (S.rest source.old) (taken_in input) (S.rest source.new)) }
-    ensures unread { IsBadWords result → S.rest source.new ≡ S.rest source.old }
-    ensures unread_count { IsBadWords result → S.faults source.new ≡ S.faults source.old }
+    ensures unread { (AsksForInput (meaning (map string_bytes words.now)) → ⊥) → S.rest source.new ≡ S.rest source.old }
+    ensures unread_count { (AsksForInput (meaning (map string_bytes words.now)) → ⊥) → S.faults source.new ≡ S.faults source.old }
 
     // The lines took the text of the fault, or of the exit of the program that was run: all of it, unless they
     // failed in this call.
@@ -80,7 +82,7 @@ pub fn turbosmarts<S: Source, K: Sink, F: Sink>(
 }
 
 fn end_of<S: Source, K: Sink>(alloc: Global, words: &[String], source: &mut S, sink: &mut K) -> End
-    ensures ends { EndsAs (answer (map string_bytes words.now))
+    ensures ends { EndsAs (answer (map string_bytes words.now)) (AsksForInput (meaning (map string_bytes words.now)))
         (record {
           before = S.rest source.old;
           after = S.rest source.new;
@@ -97,9 +99,6 @@ fn end_of<S: Source, K: Sink>(alloc: Global, words: &[String], source: &mut S, s
     ensures words { IfErr (meaning (map string_bytes words.now)) (λ fault.
         (result.status ≡ Status.NoMemory → ⊥) → result.status ≡ Status.BadWords fault) }
     ensures words_only { IsBadWords result.status → IsErr (meaning (map string_bytes words.now)) }
-    ensures read_accepted { result.status ≡ Status.ReadFault → IsOk (meaning (map string_bytes words.now)) }
-    ensures unread { IsBadWords result.status → S.rest source.new ≡ S.rest source.old }
-    ensures unread_count { IsBadWords result.status → S.faults source.new ≡ S.faults source.old }
 {
     match read_words(words) {
         Ok(command) => do_command(alloc, &command, source, sink),

@@ -12,4 +12,4 @@ returns-in-Err-Fault-clause-ends g c =
     let is = rw c.in-Err-Fault.field-0-is at c.in-Err-Fault.ensures.answer in
     let status : c.of.result.status ≡ BadWords c.in-Err-Fault.fault =
     c.of.ensures.status ∙ ap BadWords c.in-Err-Fault.fault-is in
-    ends_with_fault _ _ _ _ _ _ is refl status c.of.ensures.exit
+    ends_with_fault _ _ _ _ _ _ is refl refl refl status c.of.ensures.exit
