@@ -151,3 +151,21 @@ pub one_answer :
 one_answer (Sample design config test) idle input = absurd (idle tt)
 one_answer (Demo size design config test) idle input = refl
 one_answer (Run budget) idle input = absurd (idle tt)
+
+-- the whole answer was written
+pub gives_done :
+    (answer : Answer) (sink : Change) (told : List ℕ)
+    → answer.status ≡ statuses.Done → Takes sink.before answer.bytes sink.after → told ≡ answer.lines
+    → GivesAnswer answer sink statuses.Done told
+gives_done answer sink told done wrote is_told = record {
+  status = λ d. sym done;
+  written = λ d. wrote;
+  no_read = λ e. cc;
+  write_cause = λ taken e. cc;
+  write_done = λ taken e. cc;
+  write_front = λ taken e. cc;
+  write_short = λ taken e. cc;
+  no_memory = λ e. cc;
+  told_fault = λ d. absurd d;
+  told_done = λ e. is_told;
+}
