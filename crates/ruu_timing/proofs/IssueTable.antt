@@ -4,7 +4,7 @@ use Rattle.std.specs.Int.Bits.{bit_and}
 use Rattle.std.proofs.Math.Nat.{div-add-mod, mul-le-mul_left, mul-suc}
 use Rattle.std.proofs.lemmas.Bool.{ltb-true, and_parts, cases_eq, cases_lt, lt-ltb, eq-eqb, ne_eqb, false≢true}
 use Rattle.std.proofs.lemmas.Nat.{mod_below, and_mask, pow_pos}
-use Rattle.std.proofs.lemmas.List.{get_or-set_same, get_or-set_other, get_or-replicate, length-set}
+use Rattle.std.proofs.lemmas.List.{get_or-set_same, get_or-set_other, get_or-replicate, get_or_default, length-set}
 use Rattle.rv_isa.specs.declared.roles.Class.{Class}
 use Rattle.rv_isa.specs.declared.roles.Class.TheVariants.{Alu, Mul, Div, Load, Store, Control, Ecall}
 use Rattle.hierarchy.specs.declared.widths.Widths.{Widths}
@@ -127,6 +127,14 @@ at_other slots start class t u some differs taken =
       | inr other ↦
           rw (place, get_or-set_other slots (place_of slots t) (place_of slots u) more (idle (start + u)) other) refl
     ]
+
+-- a place that is read is there, so nothing depends on what stands for a missing one
+pub claimed :
+    (slots : List Slot) (start t : ℕ) (d : Slot) → 0 < length slots
+    → (if (get_or slots (place_of slots t) d).cycle == start + t then get_or slots (place_of slots t) d else idle (start + t))
+    ≡ slot_at slots start t
+claimed slots start t d some =
+    rw (get_or_default slots (place_of slots t) d (idle (start + t)) (mod_below t (length slots) some)) refl
 
 -- what holds of each holds of one that is read, and stays so where one is put
 each_get_or : {X : Type 0} (P : X → Type 0) (xs : List X) (i : ℕ) (d : X) → i < length xs → Each P xs → P (get_or xs i d)
