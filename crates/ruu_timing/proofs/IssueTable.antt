@@ -1,10 +1,10 @@
 -- The table of issues says how many earlier instructions issue in each cycle that can still be asked for.
-use Rattle.std.proofs.Common.{◌≡◌, ◌≢◌,  ◌+◌, ◌-◌, ◌*◌, ◌/◌, ◌%◌, ◌<◌, ◌≤◌, ◌==◌, ◌&&◌, ℕ, zero, suc, Bool, true, false, cond, if◌then◌else◌, List, [], ◌∷◌, length, get_or, set, replicate, filter, nat_lt, refl, sym, ◌∙◌, ap, subst, arith, inl, inr}
+use Rattle.std.proofs.Common.{◌≡◌, ◌≢◌, ◌+◌, ◌-◌, ◌*◌, ◌/◌, ◌%◌, ◌<◌, ◌≤◌, ◌==◌, ◌&&◌, ℕ, zero, suc, Bool, true, false, cond, if◌then◌else◌, List, [], ◌∷◌, length, get_or, set, replicate, filter, nat_lt, refl, sym, ◌∙◌, ap, subst, arith, inl, inr}
 use Rattle.std.specs.Int.Bits.{bit_and}
 use Rattle.std.proofs.Math.Nat.{div-add-mod, mul-le-mul_left, mul-suc}
 use Rattle.std.proofs.lemmas.Bool.{ltb-true, and_parts, cases_eq, cases_lt, lt-ltb, eq-eqb, ne_eqb, false≢true}
 use Rattle.std.proofs.lemmas.Nat.{mod_below, and_mask, pow_pos}
-use Rattle.std.proofs.lemmas.List.{get_or-set_same, get_or-set_other, get_or-replicate, length-set}
+use Rattle.std.proofs.lemmas.List.{get_or-set_same, get_or-set_other, get_or-replicate, get_or_default, length-set}
 use Rattle.rv_isa.specs.declared.roles.Class.{Class}
 use Rattle.rv_isa.specs.declared.roles.Class.TheVariants.{Alu, Mul, Div, Load, Store, Control, Ecall}
 use Rattle.hierarchy.specs.declared.widths.Widths.{Widths}
@@ -128,6 +128,14 @@ at_other slots start class t u some differs taken =
           rw (place, get_or-set_other slots (place_of slots t) (place_of slots u) more (idle (start + u)) other) refl
     ]
 
+-- a place that is read is there, so nothing depends on what stands for a missing one
+pub claimed :
+    (slots : List Slot) (start t : ℕ) (d : Slot) → 0 < length slots
+    → (if (get_or slots (place_of slots t) d).cycle == start + t then get_or slots (place_of slots t) d else idle (start + t))
+    ≡ slot_at slots start t
+claimed slots start t d some =
+    rw (get_or_default slots (place_of slots t) d (idle (start + t)) (mod_below t (length slots) some)) refl
+
 -- what holds of each holds of one that is read, and stays so where one is put
 each_get_or : {X : Type 0} (P : X → Type 0) (xs : List X) (i : ℕ) (d : X) → i < length xs → Each P xs → P (get_or xs i d)
 each_get_or P [] i d below each = absurd (let h : i < 0 = below in omega arith)
@@ -191,11 +199,11 @@ other_kept :
 other_kept earlier x slots start t some has next behind differs =
     at_other slots start x.mark.class x.issue t some differs
     (λ e same.
-        let before : (get_or slots (place_of slots t) (idle (start + t))).cycle ≤ start + last_of earlier =
-        each_get_or (λ s. s.cycle ≤ start + last_of earlier) slots (place_of slots t) (idle (start + t))
-        (mod_below t (length slots) some) has.before in
-        differs (apart_both (length slots) x.dispatch t x.issue
-        behind (omega (arith, before, same, next.close)) next.after next.near e))
+    let before : (get_or slots (place_of slots t) (idle (start + t))).cycle ≤ start + last_of earlier =
+    each_get_or (λ s. s.cycle ≤ start + last_of earlier) slots (place_of slots t) (idle (start + t))
+    (mod_below t (length slots) some) has.before in
+    differs (apart_both (length slots) x.dispatch t x.issue
+    behind (omega (arith, before, same, next.close)) next.after next.near e))
 
 count_kept :
     (earlier : List Timed) (x : Timed) (slots : List Slot) (start t : ℕ) → 0 < length slots
@@ -250,11 +258,11 @@ issued_kept earlier x slots start some has next =
       alike = λ u class behind. alike_kept earlier x slots start u class some has next behind;
       before = each_set (λ s. s.cycle ≤ start + x.retirement) slots (place_of slots t) more
           (each_weaker (λ s. s.cycle ≤ start + last_of earlier) (λ s. s.cycle ≤ start + x.retirement)
-              (λ s le. omega (arith, le, next.rises)) slots has.before)
+          (λ s le. omega (arith, le, next.rises)) slots has.before)
           (omega (arith, cycle_at slots start t, next.issued));
       sevens = each_set (λ s. length s.alike ≡ 7) slots (place_of slots t) more has.sevens
           (length-set (slot_at slots start t).alike (number_of x.mark.class) (alike_in (slot_at slots start t) x.mark.class + 1)
-              ∙ seven_at slots start t some has.sevens);
+          ∙ seven_at slots start t some has.sevens);
     }
 
 -- at the start of a trace no cycle is taken
@@ -264,11 +272,11 @@ pub none_issued :
 none_issued slots start some before sevens =
     let gone : (t : ℕ) → 0 < t → slot_at slots start t ≡ idle (start + t) =
     λ t late.
-        chosen_idle (get_or slots (place_of slots t) (idle (start + t))) (start + t)
-        (λ e.
-            let old : (get_or slots (place_of slots t) (idle (start + t))).cycle ≤ start =
-            each_get_or (λ s. s.cycle ≤ start) slots (place_of slots t) (idle (start + t)) (mod_below t (length slots) some) before in
-            omega (arith, old, e, late)) in
+    chosen_idle (get_or slots (place_of slots t) (idle (start + t))) (start + t)
+    (λ e.
+    let old : (get_or slots (place_of slots t) (idle (start + t))).cycle ≤ start =
+    each_get_or (λ s. s.cycle ≤ start) slots (place_of slots t) (idle (start + t)) (mod_below t (length slots) some) before in
+    omega (arith, old, e, late)) in
     record {
       issued = λ t late. rw (gone t late) refl;
       alike = λ t class late. rw (gone t late) (get_or-replicate 7 (number_of class) 0 0 (number_below class));
@@ -293,9 +301,9 @@ room_behind w slots start class last t widths some before late =
     let gone : slot_at slots start t ≡ idle (start + t) =
     chosen_idle (get_or slots (place_of slots t) (idle (start + t))) (start + t)
     (λ e.
-        let old : (get_or slots (place_of slots t) (idle (start + t))).cycle ≤ start + last =
-        each_get_or (λ s. s.cycle ≤ start + last) slots (place_of slots t) (idle (start + t)) (mod_below t (length slots) some) before in
-        omega (arith, old, e, late)) in
+    let old : (get_or slots (place_of slots t) (idle (start + t))).cycle ≤ start + last =
+    each_get_or (λ s. s.cycle ≤ start + last) slots (place_of slots t) (idle (start + t)) (mod_below t (length slots) some) before in
+    omega (arith, old, e, late)) in
     let wide : nat_lt 0 w.issue ≡ true = lt-ltb 0 w.issue (omega (arith, widths.issue.0)) in
     let limited : nat_lt 0 (limit_of w class) ≡ true = lt-ltb 0 (limit_of w class) (limit_positive w class widths) in
     rw (gone, get_or-replicate {A = ℕ} 7 (number_of class) 0 0 (number_below class), wide, limited) refl

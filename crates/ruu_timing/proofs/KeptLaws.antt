@@ -38,27 +38,33 @@ pub fetch_same :
     → fetch_of w (take (depth w) earlier) m ≡ fetch_of w earlier m
 unfolding fetch_of
 fetch_same w earlier m widths =
-    rw (back_take (depth w) 1 earlier (omega arith) (omega arith),
-    back_take (depth w) w.queue earlier widths.queue.0 (omega (arith, widths.queue.1)),
-    back_take (depth w) w.fetch earlier widths.fetch.0 (omega (arith, widths.fetch.1))) refl
+    rw (
+      back_take (depth w) 1 earlier (omega arith) (omega arith),
+      back_take (depth w) w.queue earlier widths.queue.0 (omega (arith, widths.queue.1)),
+      back_take (depth w) w.fetch earlier widths.fetch.0 (omega (arith, widths.fetch.1)),
+    ) refl
 
 pub dispatch_same :
     (w : Widths) (earlier : List Timed) (m : Marked) (fetch : ℕ) → AreWidths w
     → dispatch_from w (take (depth w) earlier) (take w.lsq (memory_ones earlier)) m fetch ≡ dispatch_of w earlier m fetch
 unfolding dispatch_from dispatch_of
 dispatch_same w earlier m fetch widths =
-    rw (back_take (depth w) 1 earlier (omega arith) (omega arith),
-    back_take (depth w) w.dispatch earlier widths.dispatch.0 (omega (arith, widths.dispatch.1)),
-    back_take (depth w) w.ruu earlier (omega (arith, widths.ruu.0)) (omega arith),
-    back_take w.lsq w.lsq (memory_ones earlier) (omega (arith, widths.lsq.0)) (omega arith)) refl
+    rw (
+      back_take (depth w) 1 earlier (omega arith) (omega arith),
+      back_take (depth w) w.dispatch earlier widths.dispatch.0 (omega (arith, widths.dispatch.1)),
+      back_take (depth w) w.ruu earlier (omega (arith, widths.ruu.0)) (omega arith),
+      back_take w.lsq w.lsq (memory_ones earlier) (omega (arith, widths.lsq.0)) (omega arith),
+    ) refl
 
 pub retirement_same :
     (w : Widths) (earlier : List Timed) (completion : ℕ) → AreWidths w
     → retirement_of w (take (depth w) earlier) completion ≡ retirement_of w earlier completion
 unfolding retirement_of
 retirement_same w earlier completion widths =
-    rw (back_take (depth w) 1 earlier (omega arith) (omega arith),
-    back_take (depth w) w.retire earlier widths.retire.0 (omega (arith, widths.retire.1))) refl
+    rw (
+      back_take (depth w) 1 earlier (omega arith) (omega arith),
+      back_take (depth w) w.retire earlier widths.retire.0 (omega (arith, widths.retire.1)),
+    ) refl
 
 pub last_same : (w : Widths) (earlier : List Timed) → last_of (take (depth w) earlier) ≡ last_of earlier
 last_same w earlier = rw (back_take (depth w) 1 earlier (omega arith) (omega arith)) refl
@@ -196,10 +202,12 @@ pub ready_same :
 unfolding ready_from ready_of
 ready_same w earlier f m fetch widths kept first second =
     let accessed : f.accesses.items ≡ take w.lsq (memory_ones earlier) = ap (λ b. b.items) kept.accesses in
-    rw (completed_is earlier f.registers.items m.first kept.registers first,
-    completed_is earlier f.registers.items m.second kept.registers second,
-    accessed,
-    go (is_load m.class) refl) refl
+    rw (
+      completed_is earlier f.registers.items m.first kept.registers first,
+      completed_is earlier f.registers.items m.second kept.registers second,
+      accessed,
+      go (is_load m.class) refl,
+    ) refl
   where
     go :
         (b : Bool) → is_load m.class ≡ b
@@ -231,8 +239,12 @@ pub timed_is :
     → completion ≡ issue + m.latency
     → retirement ≡ retirement_of w f.rows.items completion
     → record {
-      mark = m; fetch = fetch; dispatch = dispatch; issue = issue;
-      completion = completion; retirement = retirement;
+      mark = m;
+      fetch = fetch;
+      dispatch = dispatch;
+      issue = issue;
+      completion = completion;
+      retirement = retirement;
     } ≡ timed_of w earlier m
 unfolding timed_of
 timed_is w earlier f m fetch dispatch ready issue completion retirement widths kept first second fetched dispatches readies issues completes retires =
@@ -242,7 +254,7 @@ timed_is w earlier f m fetch dispatch ready issue completion retirement widths k
     sym (fetched ∙ ap (λ xs. fetch_of w xs m) rows ∙ fetch_same w earlier m widths) in
     let two : dispatch_of w earlier m fetch ≡ dispatch =
     sym (dispatches ∙ ap (λ xs. dispatch_from w xs f.accesses.items m fetch) rows
-        ∙ ap (λ xs. dispatch_from w (take (depth w) earlier) xs m fetch) accessed ∙ dispatch_same w earlier m fetch widths) in
+    ∙ ap (λ xs. dispatch_from w (take (depth w) earlier) xs m fetch) accessed ∙ dispatch_same w earlier m fetch widths) in
     let three : ready_of earlier m dispatch ≡ ready =
     sym (readies ∙ subst (λ d. ready_from f m d ≡ ready_of earlier m d) two (ready_same w earlier f m fetch widths kept first second)) in
     let waits : IsDispatch earlier dispatch ready = subst (λ r. IsDispatch earlier dispatch r) three (ready_is earlier m dispatch kept.timed) in

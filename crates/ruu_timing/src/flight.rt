@@ -135,7 +135,13 @@ impl Flight {
         requires bound { timed.issue ≤ 2 ^ 37 }
         ensures { IsNoted self.old self.new timed }
     {
-        issue_in(w, &mut self.slots, self.start, timed.mark.class, timed.issue);
+        issue_in(
+            w,
+            &mut self.slots,
+            self.start,
+            timed.mark.class,
+            timed.issue,
+        );
         complete(&mut self.registers, timed.mark.dest, timed.completion);
         note_store(&mut self.stores, &timed);
         note_access(&mut self.accesses, timed);

@@ -1,8 +1,8 @@
 //! How many instructions issue in each cycle.
-ghost use Rattle.std.specs.Prelude.{◌≡◌, ◌+◌, ◌*◌, ◌^◌, ◌<◌, ◌≤◌, length, max, replicate, IfOk, true};
+ghost use Rattle.std.specs.Prelude.{◌≡◌, ◌+◌, ◌*◌, ◌^◌, ◌<◌, ◌≤◌, length, max, replicate, IfOk, true, ◌==◌, if◌then◌else◌};
 ghost use Rattle.hierarchy.specs.Widths.{AreWidths};
 ghost use Rattle.ruu_timing.specs.Class.{number_of, limit_of};
-ghost use Rattle.ruu_timing.specs.Issues.{IsPower, idle, place_of, slot_at, has_room, issued_in};
+ghost use Rattle.ruu_timing.specs.Issues.{IsPower, idle, place_of, alike_in, has_room, one_more, issued_in};
 ghost use Rattle.ruu_timing.specs.Laws.{IsFirst};
 ghost use Rattle.ruu_timing.specs.Rows.{Each};
 
@@ -39,29 +39,39 @@ fn place_of(slots: &[Slot], t: u64) -> usize
     (t & (slots.len() as u64 - 1)) as usize
 }
 
-fn slot_at(slots: &[Slot], start: u64, t: u64) -> Slot
-    requires power { IsPower (length slots.now) }
-    requires small { (start ≤ 2 ^ 50) × (t ≤ 2 ^ 50) }
-    ensures { result ≡ slot_at slots.now start t }
+/// Makes a place that of a cycle.
+fn claim(slot: &mut Slot, cycle: u64)
+    ensures { slot.new ≡ (if slot.old.cycle == cycle then slot.old else idle cycle) }
 {
-    let slot = slots[place_of(slots, t)];
-    if slot.cycle == start + t {
-        slot
-    } else {
-        idle(start + t)
+    if slot.cycle != cycle {
+        *slot = idle(cycle);
     }
+}
+
+/// Counts one more instruction of a class.
+fn count(slot: &mut Slot, class: Class)
+    requires issued { slot.old.issued < 8 }
+    requires alike { alike_in slot.old class < 8 }
+    ensures { slot.new ≡ one_more class slot.old }
+{
+    slot.issued += 1;
+    slot.alike[number_of(class)] += 1;
 }
 
 /// Whether one more instruction of a class can issue in a cycle.
 #[tactic(auto, unfolding(crate::specs::Issues::has_room))]
-fn has_room(w: &Widths, slots: &[Slot], start: u64, class: Class, t: u64) -> bool
+fn has_room(w: &Widths, limit: u32, slots: &[Slot], start: u64, class: Class, t: u64) -> bool
+    requires widths { AreWidths w.now }
+    requires limit { limit ≡ limit_of w.now class }
     requires power { IsPower (length slots.now) }
     requires small { (start ≤ 2 ^ 50) × (t ≤ 2 ^ 50) }
     ensures { result ≡ has_room w.now slots.now start class t }
 {
-    let slot = slot_at(slots, start, t);
-    let alike = slot.alike[number_of(class)];
-    u32::from(slot.issued) < w.issue && u32::from(alike) < limit_of(w, class)
+    let slot = &slots[place_of(slots, t)];
+    if slot.cycle != start + t {
+        return true;
+    }
+    u32::from(slot.issued) < w.issue && u32::from(slot.alike[number_of(class)]) < limit
 }
 
 /// Notes one more instruction of a class that issues in a cycle.
@@ -72,11 +82,10 @@ pub(crate) fn issue_in(w: &Widths, slots: &mut [Slot], start: u64, class: Class,
     requires room { has_room w.now slots.old start class t ≡ true }
     ensures { slots.new ≡ issued_in slots.old start class t }
 {
-    let mut slot = slot_at(slots, start, t);
-    slot.issued += 1;
-    slot.alike[number_of(class)] += 1;
     let place = place_of(slots, t);
-    slots[place] = slot;
+    let slot = &mut slots[place];
+    claim(slot, start + t);
+    count(slot, class);
 }
 
 /// The first cycle from `ready` on that has room for one more instruction of a class. `last` is the
@@ -96,8 +105,9 @@ pub(crate) fn first_room(
     ensures value { IsFirst (has_room w.now slots.now start class) ready result }
     ensures bound { result ≤ max ready (last + 1) }
 {
+    let limit = limit_of(w, class);
     let mut t = ready;
-    'wait: while !has_room(w, slots, start, class, t) {
+    'wait: while !has_room(w, limit, slots, start, class, t) {
         t += 1;
     }
     t

@@ -9,7 +9,6 @@ ghost use Rattle.ruu_timing.specs.Times.{back, time_of, next_fetch, fetch_of, st
 
 use crate::class::{accesses_memory, is_ecall};
 use crate::earlier::stores_to;
-use crate::rows::next_fetch;
 use crate::timed::Timed;
 use circular_buffer::HeapCircularBuffer;
 use hierarchy::{Marked, Widths};
@@ -46,6 +45,31 @@ pub(crate) fn retirement_back(rows: &HeapCircularBuffer<Timed>, k: usize) -> u64
         Some(x) => x.retirement,
         None => 0,
     }
+}
+
+/// When the instruction behind this may be fetched.
+pub(crate) fn next_fetch(w: &Widths, x: &Timed) -> u64
+    requires widths { AreWidths w.now }
+    requires within { IsWithin (2 ^ 32) x.now }
+    ensures value { result ≡ next_fetch w.now x.now }
+    ensures bound { result ≤ 2 ^ 33 }
+{
+    let after_fetch = if x.mark.transferred {
+        x.fetch + 1
+    } else {
+        x.fetch
+    };
+    let after_wrong = if x.mark.mispredicted {
+        x.completion + u64::from(w.penalty)
+    } else {
+        0
+    };
+    let after_call = if is_ecall(x.mark.class) {
+        x.retirement + 1
+    } else {
+        0
+    };
+    after_fetch.max(after_wrong.max(after_call))
 }
 
 #[tactic(auto, unfolding(crate::specs::Times::fetch_of))]

@@ -6,8 +6,9 @@ ghost use Rattle.ruu_timing.specs.Class.{is_same, is_store};
 ghost use Rattle.ruu_timing.specs.Rows.{IsWithin, AreTimed};
 ghost use Rattle.ruu_timing.specs.Times.{back, time_of, next_fetch, fetch_of, dispatch_of, memory_ones, writes, stores_to, written, stored, ready_of, has_slot, issue_of, retirement_of, timed_of, times};
 
-use crate::class::{accesses_memory, is_ecall, is_load, limit_of};
+use crate::class::{accesses_memory, is_ecall, is_load};
 use crate::earlier::{access_before, back, first_slot, last_store, last_writer};
+use crate::latest::next_fetch;
 use crate::timed::Timed;
 use crate::trace::Trace;
 use hierarchy::{Marked, Widths};
@@ -35,31 +36,6 @@ impl Model for Rows {
     ghost view = { λ rows. reverse rows.timed.items };
 
     ghost invariant = { λ rows. (110000 ≤ vec_capacity rows.timed) × AreTimed (reverse rows.timed.items) };
-}
-
-/// When the instruction behind this may be fetched.
-pub(crate) fn next_fetch(w: &Widths, x: &Timed) -> u64
-    requires widths { AreWidths w.now }
-    requires within { IsWithin (2 ^ 32) x.now }
-    ensures value { result ≡ next_fetch w.now x.now }
-    ensures bound { result ≤ 2 ^ 33 }
-{
-    let after_fetch = if x.mark.transferred {
-        x.fetch + 1
-    } else {
-        x.fetch
-    };
-    let after_wrong = if x.mark.mispredicted {
-        x.completion + u64::from(w.penalty)
-    } else {
-        0
-    };
-    let after_call = if is_ecall(x.mark.class) {
-        x.retirement + 1
-    } else {
-        0
-    };
-    after_fetch.max(after_wrong.max(after_call))
 }
 
 impl Rows {
