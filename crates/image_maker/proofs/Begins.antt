@@ -1,57 +1,35 @@
 -- The first five instructions of the generated program set the registers that the loop rests on.
-use Rattle.std.proofs.Common.{◌≡◌, ◌<◌, ◌≤◌, ◌+◌, ◌-◌, ◌*◌, ◌/◌, ◌%◌, ◌^◌, ℕ, zero, suc, ℤ, pos, negsuc, List, [], ◌∷◌, length, get_or, Option, Some, None, IsSome, refl, sym, ap, ◌∙◌, arith}
+use Rattle.std.proofs.Common.{◌≡◌, ◌<◌, ◌≤◌, ◌+◌, ◌*◌, ◌/◌, ◌^◌, ℕ, ℤ, pos, negsuc, List, get_or, refl, arith}
 use Rattle.std.specs.Prelude.{slice_index, neg_ℤ, ◌-ℤ◌}
 use Rattle.std.proofs.lemmas.Int.{ints}
 use Rattle.rv_isa.specs.declared.inst.Inst.{Inst}
 use Rattle.rv_isa.specs.declared.inst.Inst.TheVariants.{Lui, Addi, Ecall}
-use Rattle.rv_isa.specs.Encoding.{word_of}
 use Rattle.rv_exec.specs.declared.action.Action.TheVariants as action
 use Rattle.rv_exec.specs.Arithmetic.{sum_of}
-use Rattle.rv_exec.specs.Word.{following, word}
-use Rattle.rv_exec.specs.Memory.{word_at}
-use Rattle.rv_exec.specs.Machine.{State, read, write}
+use Rattle.rv_exec.specs.Word.{word}
+use Rattle.rv_exec.specs.Machine.{State, write}
 use Rattle.rv_exec.specs.Actions.{action_of}
 use Rattle.rv_machine.specs.Running.{state_after}
 use Rattle.rv_machine.specs.Start.{start_registers}
 use Rattle.image_maker.specs.Program.{start, program}
 use Rattle.image_maker.proofs.Positions.{first_five}
-use Rattle.image_maker.proofs.Stands.{IsWithin, Stands, address_of, next_pc, came}
-use Rattle.image_maker.proofs.Steps.{IsAt, IsReady, IsUsed, computed}
+use Rattle.image_maker.proofs.Stands.{IsNext, Stands, ready_at, going, next_on, came}
+use Rattle.image_maker.proofs.Steps.{IsAt, computed}
 
--- as `IsWithin`, but for the registers
-pub record IsBare (code : List Inst) (place : ℕ) (now : State) : Type 0 where
-  pub pc : now.pc ≡ address_of place
-  pub running : now.exit ≡ None
-  pub words :
-      (k : ℕ) → k < 266 → word_at now.words (address_of k) ≡ Some (word_of (get_or code k Ecall))
-  pub used : (k : ℕ) → k < 266 → IsUsed (get_or code k Ecall)
-  pub mapped :
-      (addr : ℕ) → addr % 4 ≡ 0 → 0x00020000 ≤ addr → addr < 0x00030000
-      → IsSome (word_at now.words addr)
-
+-- behind an instruction that computes
 abbrev after : State → ℕ → ℕ → State
-after now rd value = record now { regs = write now.regs rd value; pc = following now.pc }
+after now rd value = going now (write now.regs rd value) now.words
 
 step :
-    (start : State) (code : List Inst) (n : ℕ) (now : State) (i : Inst) (rd value : ℕ)
-    → IsAt start n now → IsBare code n now → n < 266 → get_or code n Ecall ≡ i
+    (from : State) (code : List Inst) (n : ℕ) (now : State) (i : Inst) (rd value : ℕ)
+    → IsAt from n now → IsNext code n now → n < 266 → get_or code n Ecall ≡ i
     → action_of now.pc now.regs i ≡ action.Compute rd value
-    → IsAt start (n + 1) (after now rd value) × IsBare code (n + 1) (after now rd value)
-step start code n now i rd value at bare below is does =
-    let ready : IsReady now i = record {
-      running = bare.running;
-      word = rw (bare.pc, bare.words n below, is) refl;
-      used = rw (← is) (bare.used n below);
-    } in (
-      came start now (after now rd value) n (n + 1) at bare.running (computed now i rd value ready does) refl,
-      record {
-        pc = next_pc now.pc n (n + 1) bare.pc below refl;
-        running = bare.running;
-        words = bare.words;
-        used = bare.used;
-        mapped = bare.mapped;
-      },
-    )
+    → IsAt from (n + 1) (after now rd value) × IsNext code (n + 1) (after now rd value)
+step from code n now i rd value at next below is does = (
+  came from now (after now rd value) n (n + 1) at next.running
+      (computed now i rd value (ready_at code n now i next below is) does) refl,
+  next_on code n (n + 1) now (write now.regs rd value) now.words next below refl next.loaded,
+)
 
 -- the counter is loaded in two parts
 in_parts :
@@ -63,15 +41,15 @@ in_parts size high (negsuc n) a b is = omega (arith, ints)
 
 pub begins :
     (from : State) (size seed : ℕ)
-    → size ≤ 1_000_000 → from.regs ≡ start_registers → IsBare (program size seed) 0 from
+    → size ≤ 1_000_000 → from.regs ≡ start_registers → IsNext (program size seed) 0 from
     → Stands from (program size seed) 5 5 size
 unfolding start state_after sum_of
-begins from size seed most fresh bare =
+begins from size seed most fresh first =
     let code : List Inst = program size seed in
     let high : ℕ = 4096 * ((size + 2048) / 4096) in
     let rest : ℤ = pos size -ℤ pos high in
     let at : IsAt from 0 from = record { state = refl; before = λ k h. absurd (omega arith) } in
-    let s1 = step from code 0 from (Lui 8 (pos 0x20000)) 8 (word (pos 0x20000)) at bare (omega arith)
+    let s1 = step from code 0 from (Lui 8 (pos 0x20000)) 8 (word (pos 0x20000)) at first (omega arith)
     (first_five size seed 0 (omega arith)) refl in
     let n1 : State = after from 8 (word (pos 0x20000)) in
     let s2 = step from code 1 n1 (Lui 18 (pos 0x10000)) 18 (word (pos 0x10000)) s1.0 s1.1 (omega arith)
@@ -90,15 +68,11 @@ begins from size seed most fresh bare =
     record {
       state = after n4 9 turns;
       at = s5.0;
-      within = record {
-        pc = s5.1.pc;
-        running = s5.1.running;
+      next = s5.1;
+      set = record {
         size = rw fresh refl;
         base = rw fresh refl;
         mask = rw fresh refl;
         turns = rw fresh (in_parts size high rest (omega arith) (omega arith) refl);
-        code = s5.1.words;
-        used = s5.1.used;
-        mapped = s5.1.mapped;
       };
     }

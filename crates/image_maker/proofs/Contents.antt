@@ -1,15 +1,14 @@
 -- What memory holds when the generated program starts.
-use Rattle.std.proofs.Common.{◌≡◌, ◌<◌, ◌≤◌, ◌+◌, ◌-◌, ◌*◌, ◌/◌, ◌%◌, ◌^◌, ℕ, List, [], ◌∷◌, ◌++◌, length, map, take, get_or, Option, Some, None, IsSome, refl, sym, ap, ◌∙◌, arith, eq-eqb, inl, inr}
-use Rattle.std.specs.Prelude.{slice_index, IfSome}
-use Rattle.std.specs.Int.{w32, to_le_bytes, from_le_bytes}
-use Rattle.std.specs.List.{flat_map, range_with_len}
+use Rattle.std.proofs.Common.{◌≡◌, ◌<◌, ◌≤◌, ◌+◌, ◌-◌, ◌*◌, ◌/◌, ◌%◌, ◌^◌, ℕ, List, ◌++◌, length, map, take, get_or, Some, refl, sym, ap, ◌∙◌, arith, eq-eqb}
+use Rattle.std.specs.Int.{w32, to_le_bytes}
+use Rattle.std.specs.List.{flat_map}
 use Rattle.std.proofs.lemmas.List.{length-map}
 use Rattle.std.proofs.lemmas.Bool.{le-leb, lt-ltb}
 use Rattle.std.proofs.lemmas.List.{get_or-append-add, get_or-map, length-take-le}
 use Rattle.std.proofs.lemmas.List.Concat.{get_or-flat_map}
 use Rattle.std.proofs.lemmas.List.FromFn.{get_or-map-range_with_len}
 use Rattle.std.proofs.lemmas.Nat.{from_le_bytes-to_le_bytes_4}
-use Rattle.elf_image.specs.Image.{ImageValue, IsImage, loaded, byte_at, word_from, word_in}
+use Rattle.elf_image.specs.Image.{loaded, byte_at, word_from, word_in}
 use Rattle.elf_image.specs.Segments.{segments_of}
 use Rattle.elf_image.specs.Span.{lowest_address, highest_end, low_of, heap_low_of}
 use Rattle.rv_isa.specs.declared.inst.Inst.{Inst}

@@ -1,20 +1,19 @@
 -- Each group of the generated program takes four instructions and leaves what the loop rests on.
-use Rattle.std.proofs.Common.{◌≡◌, ◌≢◌, ◌<◌, ◌≤◌, ◌+◌, ◌-◌, ◌*◌, ◌/◌, ◌%◌, ◌^◌, ℕ, zero, suc, ℤ, pos, Bool, true, false, List, [], ◌∷◌, ◌++◌, length, get_or, refl, sym, ap, ◌∙◌, arith}
-use Rattle.std.specs.Prelude.{slice_index, bit_and, min, ◌==◌, ◌*ℤ◌}
+use Rattle.std.proofs.Common.{◌≡◌, ◌<◌, ◌≤◌, ◌+◌, ◌%◌, ◌^◌, ℕ, pos, List, get_or, refl, ap, ◌∙◌, arith}
+use Rattle.std.specs.Prelude.{slice_index, bit_and, ◌*ℤ◌}
 use Rattle.std.proofs.lemmas.Int.{ints}
 use Rattle.std.proofs.lemmas.Nat.{and_le_r}
 use Rattle.std.proofs.lemmas.Nat.Bits.{bit_at_and}
 use Rattle.rv_isa.specs.declared.inst.Inst.{Inst}
-use Rattle.rv_isa.specs.declared.inst.Inst.TheVariants.{Lui, Addi, Andi, Add, Xor, And, Mul, Lw, Sw, Beq, Bne, Ecall}
-use Rattle.rv_isa.specs.Table.{IsSigned}
-use Rattle.rv_exec.specs.Arithmetic.{sum_of, product_of}
+use Rattle.rv_isa.specs.declared.inst.Inst.TheVariants.{Addi, Andi, Add, Xor, And, Mul, Lw, Sw, Beq, Ecall}
+use Rattle.rv_exec.specs.Arithmetic.{sum_of}
 use Rattle.rv_exec.specs.Word.{offset_by}
-use Rattle.rv_exec.specs.Machine.{State, read, write}
+use Rattle.rv_exec.specs.Machine.{State}
 use Rattle.image_maker.specs.declared.choice.Kind.{Kind}
 use Rattle.image_maker.specs.declared.choice.Kind.TheVariants as kind
 use Rattle.image_maker.specs.Choice.{IsDrawnRegister}
 use Rattle.image_maker.specs.Program.{group_by}
-use Rattle.image_maker.proofs.Stands.{IsWithin, Stands, IsFree, IsData, drawn_free, read_kept, read_new, compute, load, store, pass}
+use Rattle.image_maker.proofs.Stands.{Stands, IsFree, IsData, free_low, drawn_free, read_new, compute, load, store, pass}
 
 -- four instructions of the code
 pub record IsGroup (code : List Inst) (place : ℕ) (group : List Inst) : Type 0 where
@@ -40,10 +39,10 @@ data_at : (x : ℕ) → IsData x → IsData (offset_by x (pos 0))
 data_at x there = rw (no_offset x (omega (arith, there.high))) there
 
 free_7 : IsFree 7
-free_7 = record { low = omega arith; high = omega arith; not_base = λ e. absurd (omega arith); not_turns = λ e. absurd (omega arith) }
+free_7 = free_low 7 (omega arith) (omega arith)
 
 free_6 : IsFree 6
-free_6 = record { low = omega arith; high = omega arith; not_base = λ e. absurd (omega arith); not_turns = λ e. absurd (omega arith) }
+free_6 = free_low 6 (omega arith) (omega arith)
 
 mix :
     (start : State) (code : List Inst) (n place turns a b d : ℕ)
@@ -117,13 +116,13 @@ finds start code n place turns d few below one two three s0 =
     three free_6 refl in
     let seven : slice_index r2 7 ≡ bit_and (slice_index r1 7) 0xFFFC =
     ap (λ (r : List ℕ). slice_index r 7) s2.1
-    ∙ read_new r1 7 anded (omega arith) (omega (arith, s1.0.within.size))
-    ∙ ap (bit_and (slice_index r1 7)) s1.0.within.mask in
+    ∙ read_new r1 7 anded (omega arith) (omega (arith, s1.0.set.size))
+    ∙ ap (bit_and (slice_index r1 7)) s1.0.set.mask in
     let six : slice_index s3.0.state.regs 6 ≡ sum_of (bit_and (slice_index r1 7) 0xFFFC) 0x00020000 =
     ap (λ (r : List ℕ). slice_index r 6) s3.1
-    ∙ read_new r2 6 found (omega arith) (omega (arith, s2.0.within.size))
+    ∙ read_new r2 6 found (omega arith) (omega (arith, s2.0.set.size))
     ∙ ap (λ (x : ℕ). sum_of x (slice_index r2 8)) seven
-    ∙ ap (sum_of (bit_and (slice_index r1 7) 0xFFFC)) s2.0.within.base in
+    ∙ ap (sum_of (bit_and (slice_index r1 7) 0xFFFC)) s2.0.set.base in
     record { stands = s3.0; found = rw six (is_data (slice_index r1 7)) }
 
 loading :

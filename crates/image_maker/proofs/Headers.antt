@@ -1,20 +1,14 @@
 -- The file of the generated program keeps all rules of an image.
-use Rattle.std.proofs.Common.{◌≡◌, ◌<◌, ◌≤◌, ◌+◌, ◌-◌, ◌*◌, ◌/◌, ◌%◌, ◌^◌, ℕ, Bool, true, false, List, [], ◌∷◌, ◌++◌, length, map, get_or, Option, Some, None, Ok, refl, sym, ap, ◌∙◌, arith, length-append}
-use Rattle.std.specs.Prelude.{slice_index, not, ◌==◌, ◌||◌, ◌&&◌, find}
-use Rattle.std.specs.List.{list_any}
-use Rattle.std.proofs.lemmas.Bool.Decides.{nat_tests}
+use Rattle.std.proofs.Common.{◌≡◌, ◌+◌, ℕ, false, List, [], ◌∷◌, ◌++◌, length, Ok, refl, arith, length-append}
 use Rattle.elf_image.specs.declared.program_header.ProgramHeader.{ProgramHeader}
 use Rattle.elf_image.specs.Fields as fields
-use Rattle.elf_image.specs.Image.{image_of, loaded, IsImage}
-use Rattle.elf_image.specs.Rules.{Rule, FileSize, Identification, Machine, FileType, Flags, HeaderTable, Interpreter, FileRange, MemoryRange, Apart, Span, Entry, rules, breaks, verdict}
-use Rattle.elf_image.specs.Segments.{segments_of, overlap, holds, is_misplaced, passes_file, is_entry}
-use Rattle.elf_image.specs.Span.{lowest_address, highest_end, low_of, heap_low_of}
-use Rattle.elf_image.proofs.Loaded.{Kept, is_image}
+use Rattle.elf_image.specs.Image.{image_of, loaded}
+use Rattle.elf_image.specs.Rules.{breaks, verdict}
+use Rattle.elf_image.specs.Segments.{segments_of, overlap}
+use Rattle.elf_image.specs.Span.{lowest_address, highest_end}
+use Rattle.elf_image.proofs.Loaded.{Kept}
 use Rattle.elf_image.proofs.Overlaps.{holds_low, holds_high, shares_none}
-use Rattle.rv_isa.specs.Encoding.{word_of}
-use Rattle.image_maker.specs.Image.{words, file_header, program_headers, image_file}
-use Rattle.image_maker.specs.Program.{program}
-use Rattle.image_maker.proofs.Pieces.{length_words, length_program}
+use Rattle.image_maker.specs.Image.{words, file_header, program_headers}
 
 -- the two segments
 abbrev pub text : ProgramHeader

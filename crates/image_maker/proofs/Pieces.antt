@@ -1,18 +1,17 @@
 -- How the lists of words and of groups grow, one at a time, and how long they are.
-use Rattle.std.proofs.Common.{◌≡◌, ◌<◌, ◌+◌, ◌*◌, ◌++◌, ℕ, zero, suc, List, [], ◌∷◌, length, map, take, get_or, refl, ap, arith, append_assoc, length-append, add-one}
-use Rattle.std.proofs.lemmas.List.{map_more, flat_map_more, append-nil}
+use Rattle.std.proofs.Common.{◌≡◌, ◌+◌, ◌*◌, ◌++◌, ℕ, zero, suc, List, [], ◌∷◌, length, map, refl, ap, arith, length-append}
+use Rattle.std.proofs.lemmas.List.{flat_map_more, append-nil}
 use Rattle.std.proofs.lemmas.List.FromFn.{map-range_with_len_more, length-map-range_with_len}
 use Rattle.std.proofs.Math.ListN.{length-map}
 use Rattle.std.specs.Int.{to_le_bytes, w32}
 use Rattle.std.specs.List.{flat_map}
-use Rattle.smarts_base.specs.Draws.{next_state}
 use Rattle.rv_isa.specs.Encoding.{word_of}
 use Rattle.image_maker.specs.declared.choice.Kind.{Kind}
 use Rattle.image_maker.specs.declared.choice.Kind.TheVariants as kind
 use Rattle.image_maker.specs.declared.choice.Choice.{Choice}
 use Rattle.image_maker.specs.Choice.{state_behind, choice_of}
-use Rattle.image_maker.specs.Image.{words, file_header, program_headers, image_file}
-use Rattle.image_maker.specs.Program.{group_by, group_of, groups, program, start, turn_end, exit}
+use Rattle.image_maker.specs.Image.{words, file_header, image_file}
+use Rattle.image_maker.specs.Program.{group_by, group_of, groups, program, start}
 
 pub words_none : (front : List ℕ) → front ≡ front ++ words []
 unfolding words

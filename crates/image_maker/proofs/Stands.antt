@@ -1,22 +1,17 @@
 -- How far the run of the generated program has come: what its registers and memory hold, and that
 -- each instruction leads on.
-use Rattle.std.proofs.Common.{◌≡◌, ◌≢◌, ◌<◌, ◌≤◌, ◌+◌, ◌-◌, ◌*◌, ◌/◌, ◌%◌, ◌^◌, ℕ, zero, suc, ℤ, pos, Bool, true, false, List, [], ◌∷◌, ◌++◌, length, get_or, Option, Some, None, IsSome, refl, sym, ap, ◌∙◌, arith, inl, inr, get_or-set_same, get_or-set_other}
-use Rattle.std.specs.Prelude.{slice_index, slice_set, ◌==◌, if◌then◌else◌, bit_and, ◌+ℤ◌, ◌*ℤ◌}
+use Rattle.std.proofs.Common.{◌≡◌, ◌≢◌, ◌<◌, ◌≤◌, ◌+◌, ◌*◌, ◌%◌, ℕ, zero, suc, Bool, true, false, List, length, get_or, Option, Some, None, IsSome, refl, sym, ◌∙◌, arith, inl, inr, get_or-set_same, get_or-set_other}
+use Rattle.std.specs.Prelude.{slice_index}
 use Rattle.std.proofs.Math.ListN.{length-set}
-use Rattle.std.proofs.lemmas.Int.{ints}
 use Rattle.std.proofs.lemmas.Bool.{cases_eq}
-use Rattle.std.proofs.lemmas.Nat.{and_le_r}
-use Rattle.std.proofs.lemmas.Nat.Bits.{bit_at_and}
 use Rattle.rv_isa.specs.declared.inst.Inst.{Inst}
-use Rattle.rv_isa.specs.declared.inst.Inst.TheVariants.{Lui, Addi, Andi, Add, Xor, And, Mul, Lw, Sw, Beq, Bne, Ecall}
+use Rattle.rv_isa.specs.declared.inst.Inst.TheVariants.{Ecall}
 use Rattle.rv_isa.specs.Encoding.{word_of}
-use Rattle.rv_exec.specs.declared.action.Action.{Action}
 use Rattle.rv_exec.specs.declared.action.Action.TheVariants as action
 use Rattle.rv_exec.specs.declared.action.Size.TheVariants as size
-use Rattle.rv_exec.specs.Arithmetic.{sum_of, product_of}
-use Rattle.rv_exec.specs.Word.{following, offset_by, word}
+use Rattle.rv_exec.specs.Word.{following}
 use Rattle.rv_exec.specs.Memory.{Words, word_at, stored}
-use Rattle.rv_exec.specs.Machine.{State, read, write}
+use Rattle.rv_exec.specs.Machine.{State, write}
 use Rattle.rv_exec.specs.Actions.{action_of}
 use Rattle.image_maker.specs.Choice.{IsDrawnRegister}
 use Rattle.image_maker.proofs.Memories.{stored_here, stored_there}
@@ -26,25 +21,34 @@ use Rattle.image_maker.proofs.Steps.{IsAt, IsReady, IsUsed, Leads, goes, compute
 abbrev pub address_of : ℕ → ℕ
 address_of place = 0x00010074 + 4 * place
 
-pub record IsWithin (program : List Inst) (place left : ℕ) (now : State) : Type 0 where
-  pub pc : now.pc ≡ address_of place
-  pub running : now.exit ≡ None
-  pub size : length now.regs ≡ 32
-  pub base : slice_index now.regs 8 ≡ 0x00020000
-  pub mask : slice_index now.regs 18 ≡ 0xFFFC
-  pub turns : slice_index now.regs 9 ≡ left
+-- the words of memory: the code, and 64 KiB of data
+pub record IsLoaded (program : List Inst) (words : Words) : Type 0 where
   pub code :
-      (k : ℕ) → k < 266 → word_at now.words (address_of k) ≡ Some (word_of (get_or program k Ecall))
-  pub used : (k : ℕ) → k < 266 → IsUsed (get_or program k Ecall)
+      (k : ℕ) → k < 266 → word_at words (address_of k) ≡ Some (word_of (get_or program k Ecall))
   pub mapped :
       (addr : ℕ) → addr % 4 ≡ 0 → 0x00020000 ≤ addr → addr < 0x00030000
-      → IsSome (word_at now.words addr)
+      → IsSome (word_at words addr)
+
+-- the instruction at the place is next
+pub record IsNext (program : List Inst) (place : ℕ) (now : State) : Type 0 where
+  pub pc : now.pc ≡ address_of place
+  pub running : now.exit ≡ None
+  pub loaded : IsLoaded program now.words
+  pub used : (k : ℕ) → k < 266 → IsUsed (get_or program k Ecall)
+
+-- the registers that the loop rests on, with so many turns left
+pub record IsSet (left : ℕ) (regs : List ℕ) : Type 0 where
+  pub size : length regs ≡ 32
+  pub base : slice_index regs 8 ≡ 0x00020000
+  pub mask : slice_index regs 18 ≡ 0xFFFC
+  pub turns : slice_index regs 9 ≡ left
 
 -- behind n instructions the one at the place is next, in the turn before so many others
 pub record Stands (start : State) (code : List Inst) (n place turns : ℕ) : Type 0 where
   pub state : State
   pub at : IsAt start n state
-  pub within : IsWithin code place turns state
+  pub next : IsNext code place state
+  pub set : IsSet turns state.regs
 
 -- ---- registers
 
@@ -69,42 +73,60 @@ pub record IsFree (rd : ℕ) : Type 0 where
   pub not_base : rd ≢ 8
   pub not_turns : rd ≢ 9
 
-pub drawn_free : (r : ℕ) → IsDrawnRegister r → IsFree r
-drawn_free r h = record {
-  low = omega arith;
+pub free_low : (rd : ℕ) → 0 < rd → rd < 8 → IsFree rd
+free_low rd some below = record {
+  low = some;
   high = omega arith;
   not_base = λ e. absurd (omega arith);
   not_turns = λ e. absurd (omega arith);
 }
 
+pub free_high : (rd : ℕ) → 9 < rd → rd < 18 → IsFree rd
+free_high rd above below = record {
+  low = omega arith;
+  high = below;
+  not_base = λ e. absurd (omega arith);
+  not_turns = λ e. absurd (omega arith);
+}
+
+pub drawn_free : (r : ℕ) → IsDrawnRegister r → IsFree r
+drawn_free r h = free_high r (omega arith) (omega arith)
+
 -- ---- steps
 
 pub ready_at :
-    (code : List Inst) (place turns : ℕ) (now : State) (i : Inst)
-    → IsWithin code place turns now → place < 266 → get_or code place Ecall ≡ i → IsReady now i
-ready_at code place turns now i within below is = record {
-  running = within.running;
-  word = rw (within.pc, within.code place below, is) refl;
-  used = rw (← is) (within.used place below);
+    (code : List Inst) (place : ℕ) (now : State) (i : Inst)
+    → IsNext code place now → place < 266 → get_or code place Ecall ≡ i → IsReady now i
+ready_at code place now i next below is = record {
+  running = next.running;
+  word = rw (next.pc, next.loaded.code place below, is) refl;
+  used = rw (← is) (next.used place below);
 }
 
-pub next_pc : (pc place k : ℕ) → pc ≡ address_of place → place < 266 → k ≡ place + 1 → following pc ≡ address_of k
+-- the state behind an instruction that isn't a jump
+abbrev pub going : State → List ℕ → Words → State
+going now regs words = record now { regs = regs; words = words; pc = following now.pc }
+
+next_pc : (pc place k : ℕ) → pc ≡ address_of place → place < 266 → k ≡ place + 1 → following pc ≡ address_of k
 next_pc pc place k is below one = omega arith
 
-wrote :
-    (code : List Inst) (place turns rd value k : ℕ) (now : State)
-    → IsWithin code place turns now → place < 266 → k ≡ place + 1 → IsFree rd
-    → IsWithin code k turns (record now { regs = write now.regs rd value; pc = following now.pc })
-wrote code place turns rd value k now within below one free = record {
-  pc = next_pc now.pc place k within.pc below one;
-  running = within.running;
-  size = size_kept now.regs rd value ∙ within.size;
-  base = read_kept now.regs rd value 8 (λ e. free.not_base (sym e)) ∙ within.base;
-  mask = read_kept now.regs rd value 18 (λ e. absurd (omega (arith, free.high))) ∙ within.mask;
-  turns = read_kept now.regs rd value 9 (λ e. free.not_turns (sym e)) ∙ within.turns;
-  code = within.code;
-  used = within.used;
-  mapped = within.mapped;
+pub next_on :
+    (code : List Inst) (place k : ℕ) (now : State) (regs : List ℕ) (words : Words)
+    → IsNext code place now → place < 266 → k ≡ place + 1 → IsLoaded code words
+    → IsNext code k (going now regs words)
+next_on code place k now regs words next below one loaded = record {
+  pc = next_pc now.pc place k next.pc below one;
+  running = next.running;
+  loaded = loaded;
+  used = next.used;
+}
+
+set_kept : (left : ℕ) (regs : List ℕ) (rd value : ℕ) → IsSet left regs → IsFree rd → IsSet left (write regs rd value)
+set_kept left regs rd value set free = record {
+  size = size_kept regs rd value ∙ set.size;
+  base = read_kept regs rd value 8 (λ e. free.not_base (sym e)) ∙ set.base;
+  mask = read_kept regs rd value 18 (λ e. absurd (omega (arith, free.high))) ∙ set.mask;
+  turns = read_kept regs rd value 9 (λ e. free.not_turns (sym e)) ∙ set.turns;
 }
 
 pub came :
@@ -112,16 +134,6 @@ pub came :
     → IsAt start n now → now.exit ≡ None → Leads now after → m ≡ n + 1 → IsAt start m after
 came start now after n m at running leads one =
     rw one (goes start n now after leads.event at running leads.went leads.running)
-
-pub led :
-    (start now after : State) (code : List Inst) (n m k turns : ℕ)
-    → IsAt start n now → now.exit ≡ None → Leads now after → m ≡ n + 1 → IsWithin code k turns after
-    → Stands start code m k turns
-led start now after code n m k turns at running leads one within = record {
-  state = after;
-  at = came start now after n m at running leads one;
-  within = within;
-}
 
 pub compute :
     (start : State) (code : List Inst) (n place turns : ℕ) (stands : Stands start code n place turns)
@@ -131,12 +143,14 @@ pub compute :
     → (later : Stands start code m k turns) × (later.state.regs ≡ write stands.state.regs rd value)
 compute start code n place turns stands i rd value m k more one below is free does =
     let now = stands.state in
-    let within = stands.within in
-    let leads = computed now i rd value (ready_at code place turns now i within below is) does in (
+    let next = stands.next in
+    let regs = write now.regs rd value in
+    let leads = computed now i rd value (ready_at code place now i next below is) does in (
       record {
-        state = record now { regs = write now.regs rd value; pc = following now.pc };
-        at = came start now _ n m stands.at within.running leads more;
-        within = wrote code place turns rd value k now within below one free;
+        state = going now regs now.words;
+        at = came start now _ n m stands.at next.running leads more;
+        next = next_on code place k now regs now.words next below one next.loaded;
+        set = set_kept turns now.regs rd value stands.set free;
       },
       refl,
     )
@@ -159,12 +173,18 @@ pub load :
     → Stands start code m k turns
 load start code n place turns stands i rd addr m k more one below is free does there =
     let now = stands.state in
-    let within = stands.within in
-    let found = some_of (word_at now.words addr) (within.mapped addr there.aligned there.low there.high) in
+    let next = stands.next in
+    let found =
+    some_of (word_at now.words addr) (next.loaded.mapped addr there.aligned there.low there.high) in
+    let regs = write now.regs rd found.0 in
     let leads =
-    loads now i rd addr found.0 (ready_at code place turns now i within below is) does there.aligned found.1 in
-    led start now (record now { regs = write now.regs rd found.0; pc = following now.pc }) code n m k turns
-    stands.at within.running leads more (wrote code place turns rd found.0 k now within below one free)
+    loads now i rd addr found.0 (ready_at code place now i next below is) does there.aligned found.1 in
+    record {
+      state = going now regs now.words;
+      at = came start now _ n m stands.at next.running leads more;
+      next = next_on code place k now regs now.words next below one next.loaded;
+      set = set_kept turns now.regs rd found.0 stands.set free;
+    }
 
 still_there : (words : Words) (addr value q : ℕ) → IsSome (word_at words q) → IsSome (word_at (stored words addr value) q)
 still_there words addr value q is =
@@ -172,6 +192,18 @@ still_there words addr value q is =
       | inl same ↦ rw (same, stored_here words addr value) refl
       | inr other ↦ rw (stored_there words addr value q other) is
     ]
+
+-- a store to the data leaves the code, and all that is mapped
+still_loaded :
+    (program : List Inst) (words : Words) (addr value : ℕ)
+    → IsLoaded program words → IsData addr → IsLoaded program (stored words addr value)
+still_loaded program words addr value loaded there = record {
+  code =
+      λ k h.
+      stored_there words addr value (address_of k) (λ e. absurd (omega (arith, there.low)))
+      ∙ loaded.code k h;
+  mapped = λ q aligned low high. still_there words addr value q (loaded.mapped q aligned low high);
+}
 
 pub store :
     (start : State) (code : List Inst) (n place turns : ℕ) (stands : Stands start code n place turns)
@@ -181,26 +213,20 @@ pub store :
     → Stands start code m k turns
 store start code n place turns stands i addr value m k more one below is does there =
     let now = stands.state in
-    let within = stands.within in
-    let found = some_of (word_at now.words addr) (within.mapped addr there.aligned there.low there.high) in
+    let next = stands.next in
+    let found =
+    some_of (word_at now.words addr) (next.loaded.mapped addr there.aligned there.low there.high) in
+    let words = stored now.words addr value in
     let leads =
-    stores now i addr value found.0 (ready_at code place turns now i within below is) does there.aligned found.1 in
-    led start now (record now { words = stored now.words addr value; pc = following now.pc }) code n m k turns
-    stands.at within.running leads more
-    (record {
-      pc = next_pc now.pc place k within.pc below one;
-      running = within.running;
-      size = within.size;
-      base = within.base;
-      mask = within.mask;
-      turns = within.turns;
-      code =
-          λ j h.
-          stored_there now.words addr value (address_of j) (λ e. absurd (omega (arith, there.low)))
-          ∙ within.code j h;
-      used = within.used;
-      mapped = λ q aligned low high. still_there now.words addr value q (within.mapped q aligned low high);
-    })
+    stores now i addr value found.0 (ready_at code place now i next below is) does there.aligned found.1 in
+    record {
+      state = going now now.regs words;
+      at = came start now _ n m stands.at next.running leads more;
+      next =
+          next_on code place k now now.regs words next below one
+          (still_loaded code now.words addr value next.loaded there);
+      set = stands.set;
+    }
 
 -- a branch to the instruction behind it
 either_way : (taken : Bool) (pc : ℕ) → target_of taken (following pc) pc ≡ following pc
@@ -215,21 +241,19 @@ pub pass :
     → Stands start code m k turns
 pass start code n place turns stands i taken m k more one below is does =
     let now = stands.state in
-    let within = stands.within in
-    let aligned : following now.pc % 4 ≡ 0 =
-    rw (next_pc now.pc place k within.pc below one) (omega arith) in
+    let next = stands.next in
+    let behind : following now.pc ≡ address_of k = next_pc now.pc place k next.pc below one in
+    let aligned : following now.pc % 4 ≡ 0 = rw behind (omega arith) in
     let leads =
-    branched now i taken (following now.pc) (ready_at code place turns now i within below is) does aligned in
-    led start now (record now { pc = target_of taken (following now.pc) now.pc }) code n m k turns
-    stands.at within.running leads more
-    (record {
-      pc = either_way taken now.pc ∙ next_pc now.pc place k within.pc below one;
-      running = within.running;
-      size = within.size;
-      base = within.base;
-      mask = within.mask;
-      turns = within.turns;
-      code = within.code;
-      used = within.used;
-      mapped = within.mapped;
-    })
+    branched now i taken (following now.pc) (ready_at code place now i next below is) does aligned in
+    record {
+      state = record now { pc = target_of taken (following now.pc) now.pc };
+      at = came start now _ n m stands.at next.running leads more;
+      next = record {
+        pc = either_way taken now.pc ∙ behind;
+        running = next.running;
+        loaded = next.loaded;
+        used = next.used;
+      };
+      set = stands.set;
+    }

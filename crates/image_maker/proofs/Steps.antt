@@ -1,6 +1,6 @@
 -- One instruction of a program whose words are known, by what it is to do.
-use Rattle.std.proofs.Common.{◌≡◌, ◌≢◌, ◌<◌, ◌≤◌, ◌+◌, ◌-◌, ◌*◌, ◌/◌, ◌%◌, ◌^◌, ℕ, zero, suc, ℤ, pos, Bool, true, false, List, [], ◌∷◌, ◌++◌, length, get_or, Option, Some, None, Ok, refl, sym, ap, ◌∙◌, arith, inl, inr, add-one}
-use Rattle.std.specs.Prelude.{slice_index, slice_set, ◌==◌, if◌then◌else◌}
+use Rattle.std.proofs.Common.{◌≡◌, ◌<◌, ◌+◌, ◌-◌, ◌%◌, ◌^◌, ℕ, ℤ, Bool, true, false, Option, Some, None, Ok, refl, ap, ◌∙◌, arith, inl, inr, add-one}
+use Rattle.std.specs.Prelude.{◌==◌, if◌then◌else◌}
 use Rattle.std.proofs.lemmas.Bool.{cases_lt, eq-eqb}
 use Rattle.std.proofs.lemmas.Int.{ints}
 use Rattle.std.proofs.lemmas.Bool.Decides.{nat_tests}
@@ -8,9 +8,8 @@ use Rattle.rv_isa.specs.declared.inst.Inst.{Inst}
 use Rattle.rv_isa.specs.declared.inst.Inst.TheVariants.{Lui, Addi, Andi, Add, Xor, And, Mul, Lw, Sw, Beq, Bne, Ecall}
 use Rattle.rv_isa.specs.Decoding.{decode_of}
 use Rattle.rv_isa.specs.Encoding.{word_of, word_of_row}
-use Rattle.rv_isa.specs.Table.{Row, R, I, S, B, U, Whole, row, Holds, InRange, IsWordOf, IsEncodable}
+use Rattle.rv_isa.specs.Table.{R, I, S, B, U, Holds, InRange, IsWordOf, IsEncodable}
 use Rattle.rv_isa.proofs.Rows.{decode_of_word}
-use Rattle.rv_exec.specs.declared.action.Action.{Action}
 use Rattle.rv_exec.specs.declared.action.Action.TheVariants as action
 use Rattle.rv_exec.specs.declared.action.Size.TheVariants as size
 use Rattle.rv_exec.specs.declared.event.Event.{Event}
@@ -18,12 +17,12 @@ use Rattle.rv_exec.specs.Word.{following}
 use Rattle.rv_exec.specs.Memory.{Words, word_at, stored}
 use Rattle.rv_exec.specs.declared.event.DataRef.{DataRef}
 use Rattle.rv_exec.specs.declared.event.TrapKind.{TrapKind}
-use Rattle.rv_exec.specs.Machine.{State, Outcome, Went, read, write}
+use Rattle.rv_exec.specs.Machine.{State, Outcome, Went, write}
 use Rattle.rv_exec.specs.Actions.{action_of}
 use Rattle.rv_exec.specs.Next as meaning
 use Rattle.rv_exec.specs.Next.{completes, goes_on, computes, branches, data_at, perform, next}
-use Rattle.rv_machine.specs.Running.{moved, state_after, step_at}
-use Rattle.rv_machine.specs.Laws.{Does, Reaches}
+use Rattle.rv_machine.specs.Running.{moved, state_after}
+use Rattle.rv_machine.specs.Laws.{Reaches}
 
 -- ---- words and instructions
 

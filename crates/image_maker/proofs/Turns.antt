@@ -1,25 +1,22 @@
 -- The loop of the generated program, turn by turn, and its exit.
-use Rattle.std.proofs.Common.{◌≡◌, ◌≢◌, ◌<◌, ◌≤◌, ◌+◌, ◌-◌, ◌*◌, ◌/◌, ◌%◌, ◌^◌, ℕ, zero, suc, ℤ, pos, Bool, true, false, List, [], ◌∷◌, ◌++◌, length, get_or, Option, Some, None, refl, sym, ap, ◌∙◌, arith}
-use Rattle.std.proofs.lemmas.Int.{ints}
+use Rattle.std.proofs.Common.{◌≡◌, ◌<◌, ◌≤◌, ◌+◌, ◌*◌, ◌%◌, ◌^◌, ℕ, zero, suc, pos, Bool, List, get_or, Some, None, refl, ap, ◌∙◌, arith}
 use Rattle.std.specs.Prelude.{slice_index, neg_ℤ, not, ◌==◌}
 use Rattle.std.proofs.lemmas.Bool.{ne_eqb}
 use Rattle.rv_isa.specs.declared.inst.Inst.{Inst}
-use Rattle.rv_isa.specs.declared.inst.Inst.TheVariants.{Lui, Addi, Bne, Ecall}
-use Rattle.rv_exec.specs.declared.action.Action.TheVariants as action
+use Rattle.rv_isa.specs.declared.inst.Inst.TheVariants.{Addi, Bne, Ecall}
 use Rattle.rv_exec.specs.Arithmetic.{sum_of}
 use Rattle.rv_exec.specs.declared.event.Event.{Event}
 use Rattle.rv_isa.specs.Encoding.{word_of}
 use Rattle.rv_exec.specs.Word.{following, offset_by, word}
-use Rattle.rv_exec.specs.Machine.{State, Went, read, write}
-use Rattle.rv_exec.specs.Next.{calls, exits, goes_on, completes, next}
+use Rattle.rv_exec.specs.Machine.{State, Went, write}
+use Rattle.rv_exec.specs.Next.{calls, exits, next}
 use Rattle.rv_machine.specs.Laws.{Does, Reaches}
-use Rattle.rv_machine.specs.Running.{step_at}
 use Rattle.image_maker.specs.Choice.{draw_of, kind_of, state_behind, choice_from}
-use Rattle.image_maker.specs.Program.{program, turn_end, exit}
+use Rattle.image_maker.specs.Program.{program}
 use Rattle.image_maker.proofs.Positions.{is_group, last}
 use Rattle.image_maker.proofs.Groups.{group_goes}
-use Rattle.image_maker.proofs.Stands.{IsWithin, Stands, IsFree, address_of, ready_at, next_pc, led, compute, read_kept, read_new, size_kept}
-use Rattle.image_maker.proofs.Steps.{IsAt, IsReady, computed, branched, target_of, does, goes_on_to}
+use Rattle.image_maker.proofs.Stands.{Stands, free_high, address_of, ready_at, going, next_on, came, compute, read_kept, read_new, size_kept}
+use Rattle.image_maker.proofs.Steps.{IsReady, computed, branched, target_of, does, goes_on_to}
 
 moved_to :
     (start : State) (code : List Inst) (n m place other turns : ℕ)
@@ -61,27 +58,23 @@ counts_down :
     → Stands start code n 261 (suc c) → Stands start code (n + 1) 262 c
 counts_down start code n c below is s =
     let now : State = s.state in
-    let within = s.within in
     let value : ℕ = sum_of (slice_index now.regs 9) (word (neg_ℤ (pos 1))) in
     let counted : value ≡ c =
-    ap (λ (x : ℕ). sum_of x (word (neg_ℤ (pos 1)))) within.turns ∙ down c below in
-    let leads =
-    computed now (Addi 9 9 (neg_ℤ (pos 1))) 9 value
-    (ready_at code 261 (suc c) now (Addi 9 9 (neg_ℤ (pos 1))) within (omega arith) is)
-    refl in
-    led start now (record now { regs = write now.regs 9 value; pc = following now.pc }) code n (n + 1) 262 c
-    s.at within.running leads refl
-    (record {
-      pc = next_pc now.pc 261 262 within.pc (omega arith) refl;
-      running = within.running;
-      size = size_kept now.regs 9 value ∙ within.size;
-      base = read_kept now.regs 9 value 8 (λ e. absurd (omega arith)) ∙ within.base;
-      mask = read_kept now.regs 9 value 18 (λ e. absurd (omega arith)) ∙ within.mask;
-      turns = read_new now.regs 9 value (omega arith) (omega (arith, within.size)) ∙ counted;
-      code = within.code;
-      used = within.used;
-      mapped = within.mapped;
-    })
+    ap (λ (x : ℕ). sum_of x (word (neg_ℤ (pos 1)))) s.set.turns ∙ down c below in
+    let ready = ready_at code 261 now (Addi 9 9 (neg_ℤ (pos 1))) s.next (omega arith) is in
+    let leads = computed now (Addi 9 9 (neg_ℤ (pos 1))) 9 value ready refl in
+    let regs = write now.regs 9 value in
+    record {
+      state = going now regs now.words;
+      at = came start now _ n (n + 1) s.at s.next.running leads refl;
+      next = next_on code 261 262 now regs now.words s.next (omega arith) refl s.next.loaded;
+      set = record {
+        size = size_kept now.regs 9 value ∙ s.set.size;
+        base = read_kept now.regs 9 value 8 (λ e. absurd (omega arith)) ∙ s.set.base;
+        mask = read_kept now.regs 9 value 18 (λ e. absurd (omega arith)) ∙ s.set.mask;
+        turns = read_new now.regs 9 value (omega arith) (omega (arith, s.set.size)) ∙ counted;
+      };
+    }
 
 -- where the branch at the end of a turn leads, with so many turns to come
 abbrev place_behind : ℕ → ℕ
@@ -101,27 +94,22 @@ branches_back :
     → Stands start code n 262 c → Stands start code (n + 1) (place_behind c) c
 branches_back start code n c is s =
     let now : State = s.state in
-    let within = s.within in
     let taken : Bool = not (slice_index now.regs 9 == 0) in
     let target : ℕ = offset_by now.pc (neg_ℤ (pos 1028)) in
-    let aligned : target % 4 ≡ 0 = rw within.pc refl in
-    let leads =
-    branched now (Bne 9 0 (neg_ℤ (pos 1028))) taken target
-    (ready_at code 262 c now (Bne 9 0 (neg_ℤ (pos 1028))) within (omega arith) is)
-    refl aligned in
-    led start now (record now { pc = target_of taken target now.pc }) code n (n + 1) (place_behind c) c
-    s.at within.running leads refl
-    (record {
-      pc = rw (within.turns, within.pc) (back_to c);
-      running = within.running;
-      size = within.size;
-      base = within.base;
-      mask = within.mask;
-      turns = within.turns;
-      code = within.code;
-      used = within.used;
-      mapped = within.mapped;
-    })
+    let aligned : target % 4 ≡ 0 = rw s.next.pc refl in
+    let ready = ready_at code 262 now (Bne 9 0 (neg_ℤ (pos 1028))) s.next (omega arith) is in
+    let leads = branched now (Bne 9 0 (neg_ℤ (pos 1028))) taken target ready refl aligned in
+    record {
+      state = record now { pc = target_of taken target now.pc };
+      at = came start now _ n (n + 1) s.at s.next.running leads refl;
+      next = record {
+        pc = rw (s.set.turns, s.next.pc) (back_to c);
+        running = s.next.running;
+        loaded = s.next.loaded;
+        used = s.next.used;
+      };
+      set = s.set;
+    }
 
 turn_done :
     (start : State) (size seed n c : ℕ)
@@ -175,10 +163,8 @@ pub exits_at_end :
 unfolding sum_of
 exits_at_end start size seed n s =
     let code : List Inst = program size seed in
-    let free_17 : IsFree 17 =
-    record { low = omega arith; high = omega arith; not_base = λ e. absurd (omega arith); not_turns = λ e. absurd (omega arith) } in
-    let free_10 : IsFree 10 =
-    record { low = omega arith; high = omega arith; not_base = λ e. absurd (omega arith); not_turns = λ e. absurd (omega arith) } in
+    let free_17 = free_high 17 (omega arith) (omega arith) in
+    let free_10 = free_high 10 (omega arith) (omega arith) in
     let s1 =
     compute start code n 263 0 s (Addi 17 0 (pos 93)) 17 93 (n + 1) 264 refl refl (omega arith)
     (last size seed 263 2 refl) free_17 refl in
@@ -190,10 +176,10 @@ exits_at_end start size seed n s =
     ap (λ (r : List ℕ). slice_index r 17) s2.1
     ∙ read_kept s1.0.state.regs 10 0 17 (λ e. absurd (omega arith))
     ∙ ap (λ (r : List ℕ). slice_index r 17) s1.1
-    ∙ read_new s.state.regs 17 93 (omega arith) (omega (arith, s.within.size)) in
+    ∙ read_new s.state.regs 17 93 (omega arith) (omega (arith, s.set.size)) in
     let answer : slice_index now.regs 10 ≡ 0 =
     ap (λ (r : List ℕ). slice_index r 10) s2.1
-    ∙ read_new s1.0.state.regs 10 0 (omega arith) (omega (arith, s1.0.within.size)) in
-    let ready = ready_at code 265 0 now Ecall s2.0.within (omega arith) (last size seed 265 4 refl) in
+    ∙ read_new s1.0.state.regs 10 0 (omega arith) (omega (arith, s1.0.set.size)) in
+    let ready = ready_at code 265 now Ecall s2.0.next (omega arith) (last size seed 265 4 refl) in
     let end = exits_with now 0 ready number answer in
     (s2.0.at.before, (end.0, end.1, ap next s2.0.at.state ∙ end.2, end.3))

@@ -106,7 +106,7 @@ entries_of low q ws st =
     map.get-from_entries nat_cmp_total (block low ws ++ block 0x7FF00000 st) q
     ∙ ap (λ es. map.find nat_cmp q (block low ws ++ es)) (sym (append-nil (block 0x7FF00000 st)))
 
-get_stored :
+pub get_stored :
     (words : Words) (a v q : ℕ)
     → word_at (stored words a v) q ≡ (if q == a then Some v else word_at words q)
 get_stored words a v q =

@@ -1,4 +1,3 @@
-use Rattle.std.proofs.Common.{◌≡◌}
 use Rattle.image_maker.specs.Image.{image_file, file_header, words}
 use Rattle.image_maker.proofs.Pieces.{length_file}
 use Rattle.image_maker.proofs.image.make_image.Goals as goal
