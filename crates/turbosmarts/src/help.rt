@@ -3,6 +3,7 @@ pub const HELP: &str = "\
 turbosmarts: cycles per instruction of RV32IM programs, by sampling
 
 usage: turbosmarts COMMAND [KEY=VALUE]... < IMAGE > OUTPUT
+       turbosmarts demo size=N [KEY=VALUE]... > OUTPUT
        turbosmarts --help | --version
 
 The image is an ELF executable for RV32IM. Keys come in any order, each once.
@@ -41,6 +42,10 @@ sample   measures units of the run until their mean is known well enough; writes
     memlat=N         more where no cache hits, 1 to 1000 (100)
     tlblat=N         more where the TLB misses, 0 to 200 (30)
 
+demo     samples a program that is made from a number, and reads nothing
+    size=N           turns of the program's loop, of 258 instructions each, 1 to 1000000 (required);
+                     the program is drawn from the seed. All keys of sample
+
 run      runs the program to its end; writes what it wrote
     budget=N         the most instructions of the run, 1 to 68719476736 (1000000000)
 
@@ -48,7 +53,7 @@ The process ends with one of these statuses, and tells it on standard error:
   0  done
   1  words: fault N at P: word P (from 0) is refused
        1 no command   2 unknown command   3 unknown key   4 key repeated   5 not of the key's form
-       6 out of range   8 lsq is over ruu   9 offset is not below every
+       6 out of range   7 demo has no size   8 lsq is over ruu   9 offset is not below every
   2  image: fault N
        1 no ELF file   2 not for 32-bit RISC-V   3 no executable, or it needs an interpreter
        4 built for compressed instructions   5 program headers outside the file

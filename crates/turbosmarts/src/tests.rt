@@ -189,7 +189,8 @@ fn reports_a_sample(rt: HostRuntime) -> Result<(), Fail> {
 #[test]
 fn reports_a_long_sample(rt: HostRuntime) -> Result<(), Fail> {
     let alloc = rt.alloc();
-    let line = "sample machine=scalar unit=16 warm=0 every=1";
+    let line =
+        "sample machine=scalar unit=16 warm=0 every=1 l1i=64:1:1 l1d=64:1:1 l2=64:1:1 itlb=1:1 dtlb=1:1 predictor=bimodal:4:2:0";
     let wanted = Wanted {
         status: Status::Done,
         output: b"instructions 1048580\npoints 65536\nsampled 30\nconfident yes\ncycles 480\ncpi 1.0000\nerror 0.00%\n",
@@ -255,6 +256,45 @@ fn times_with_a_register_update_unit(rt: HostRuntime) -> Result<(), Fail> {
     Ok(())
 }
 
+// The programs are made, so that the input is left as it is, here one that can't be read.
+#[test]
+fn samples_made_programs(rt: HostRuntime) -> Result<(), Fail> {
+    let alloc = rt.alloc();
+    let unread = Failing {
+        reads: &[0],
+        ..NOTHING
+    };
+    let cases = [
+        (
+            "demo size=20000",
+            "instructions 5160008\npoints 52\nsampled 52\nconfident no\ncycles 35446\ncpi 0.6816\nerror 36.69%\n",
+        ),
+        (
+            "demo size=100 machine=scalar unit=100 every=3 min=10",
+            "instructions 25808\npoints 86\nsampled 10\nconfident yes\ncycles 1192\ncpi 1.1920\nerror 2.46%\n",
+        ),
+    ];
+    for (line, text) in cases {
+        let wanted = Wanted {
+            status: Status::Done,
+            output: text.as_bytes(),
+            lines: "",
+        };
+        expect(&rt, line, Vec::new(alloc), unread, wanted)?;
+    }
+    let wanted = refused(
+        Status::BudgetSpent { budget: 265 },
+        "budget spent after 265\n",
+    );
+    expect(
+        &rt,
+        "demo size=1 budget=265",
+        Vec::new(alloc),
+        unread,
+        wanted,
+    )
+}
+
 #[test]
 fn writes_the_output_of_a_run(rt: HostRuntime) -> Result<(), Fail> {
     let alloc = rt.alloc();
@@ -316,11 +356,12 @@ fn refuses_words(rt: HostRuntime) -> Result<(), Fail> {
             "words: fault 9 at 3\n",
         ),
         (
-            "sample ruu=8",
+            "sample lsq=64 ruu=32",
             WordKind::LsqOverRuu,
-            2,
-            "words: fault 8 at 2\n",
+            3,
+            "words: fault 8 at 3\n",
         ),
+        ("demo", WordKind::Missing, 1, "words: fault 7 at 1\n"),
     ];
     for (line, kind, place, text) in cases {
         let wanted = refused(bad_words(kind, place), text);
