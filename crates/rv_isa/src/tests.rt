@@ -2,8 +2,9 @@ mod arithmetic;
 mod references;
 mod transfers;
 
-use crate::{Class, Inst, class_of, decode, dest, encode, sources};
+use crate::{Class, Decoder, Inst, class_of, decode, dest, encode, sources};
 use std::process::Abort;
+use std::test::Fail;
 
 /// Each word stands for its instruction, and is encoded of it. The cases have each instruction with
 /// the least, the greatest and telling immediates of its format. The words are those that LLVM's
@@ -115,4 +116,38 @@ fn roles(rt: HostRuntime) {
             assert!(rt; false, "{word:#010x} is decoded");
         }
     }
+}
+
+/// The same address with one word after another, and addresses that share a place in the decoder.
+/// Whatever came before, a word is decoded as if it stood alone.
+#[test]
+fn decoder(rt: HostRuntime) -> Result<(), Fail> {
+    let cases = [
+        (0x0000_1000, 0x0000_0013), // addi x0, x0, 0
+        (0x0000_1000, 0x0000_0013),
+        (0x0000_1000, 0x4073_02b3), // sub x5, x6, x7
+        (0x0000_5000, 0x0273_32b3), // mulhu x5, x6, x7
+        (0x0000_1000, 0x4073_02b3),
+        (0x0000_1000, 0x0000_0000), // no instruction
+        (0x0000_1000, 0x4073_02b3),
+        (0x0000_0ffc, 0x0000_0073), // ecall
+        (0xffff_fffc, 0xfe51_2e23), // sw x5, -4(x2)
+    ];
+    let mut decoder = Decoder::new(rt.alloc())?;
+    for (addr, word) in cases {
+        let found = decoder.decode(addr, word);
+        let inst = decode(word);
+        assert_eq!(rt; found.map(|decoded| decoded.inst), inst, "at {word:#010x}");
+        if let Some(decoded) = found {
+            let inst = decoded.inst;
+            assert_eq!(rt; decoded.class, class_of(&inst), "at {word:#010x}");
+            assert_eq!(rt;
+                (decoded.first, decoded.second),
+                sources(&inst),
+                "at {word:#010x}"
+            );
+            assert_eq!(rt; decoded.dest, dest(&inst), "at {word:#010x}");
+        }
+    }
+    Ok(())
 }
