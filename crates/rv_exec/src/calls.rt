@@ -8,7 +8,7 @@ use crate::event::{Buffer, Event, TrapKind};
 use crate::finish::{compute, go_on};
 use crate::memory::Memory;
 use crate::state::Core;
-use rv_isa::Inst;
+use rv_isa::Decoded;
 
 /// How far the heap may grow.
 const HEAP_LIMIT: u32 = 0x0400_0000;
@@ -20,37 +20,42 @@ pub fn call<M: Memory>(
     core: &mut Core,
     memory: &M,
     word: u32,
-    inst: &Inst,
+    decoded: &Decoded,
 ) -> Result<Event, TrapKind>
     requires { M.sound memory.now }
     ensures leads { Leads
         (meaning.calls (state core.old (M.words memory.now) (M.buffers memory.now)) word
-        inst.now)
+        decoded.now.inst)
         result (state core.new (M.words memory.now) (M.buffers memory.now)) }
     ensures unchanged { OnErr result (core.new ≡ core.old) }
 {
     match read(&core.regs, 17) {
-        64 => write(core, memory, word, inst),
-        93 | 94 => Ok(exit(core, word, inst)),
-        214 => Ok(set_break(core, word, inst)),
-        _ => Ok(answer(core, word, inst, 38u32.wrapping_neg(), None)),
+        64 => write(core, memory, word, decoded),
+        93 | 94 => Ok(exit(core, word, decoded)),
+        214 => Ok(set_break(core, word, decoded)),
+        _ => Ok(answer(core, word, decoded, 38u32.wrapping_neg(), None)),
     }
 }
 
-fn answer(core: &mut Core, word: u32, inst: &Inst, value: u32, wrote: Option<Buffer>) -> Event
+fn answer(core: &mut Core, word: u32, decoded: &Decoded, value: u32, wrote: Option<Buffer>) -> Event
     ensures { (m : Words) (b : Buffers)
-        → meaning.answers (state core.old m b) word inst.now value wrote
+        → meaning.answers (state core.old m b) word decoded.now.inst value wrote
         ≡ Went result (state core.new m b) }
 {
-    compute(core, word, inst, 10, value, None, wrote)
+    compute(core, word, decoded, 10, value, None, wrote)
 }
 
 #[tactic(auto, unfolding(crate::specs::Next::writes))]
-fn write<M: Memory>(core: &mut Core, memory: &M, word: u32, inst: &Inst) -> Result<Event, TrapKind>
+fn write<M: Memory>(
+    core: &mut Core,
+    memory: &M,
+    word: u32,
+    decoded: &Decoded,
+) -> Result<Event, TrapKind>
     requires { M.sound memory.now }
     ensures leads { Leads
         (meaning.writes (state core.old (M.words memory.now) (M.buffers memory.now)) word
-        inst.now)
+        decoded.now.inst)
         result (state core.new (M.words memory.now) (M.buffers memory.now)) }
     ensures unchanged { OnErr result (core.new ≡ core.old) }
 {
@@ -58,37 +63,37 @@ fn write<M: Memory>(core: &mut Core, memory: &M, word: u32, inst: &Inst) -> Resu
     let addr = read(&core.regs, 11);
     let len = read(&core.regs, 12);
     if descriptor != 1 && descriptor != 2 {
-        return Ok(answer(core, word, inst, 9u32.wrapping_neg(), None));
+        return Ok(answer(core, word, decoded, 9u32.wrapping_neg(), None));
     }
     if len == 0 {
-        return Ok(answer(core, word, inst, 0, None));
+        return Ok(answer(core, word, decoded, 0, None));
     }
     if !memory.covers(addr, len) {
         return Err(TrapKind::BadBuffer);
     }
-    Ok(answer(core, word, inst, len, Some(Buffer { addr, len })))
+    Ok(answer(core, word, decoded, len, Some(Buffer { addr, len })))
 }
 
 #[tactic(auto, unfolding(crate::specs::Next::exits))]
-fn exit(core: &mut Core, word: u32, inst: &Inst) -> Event
+fn exit(core: &mut Core, word: u32, decoded: &Decoded) -> Event
     ensures { (m : Words) (b : Buffers)
-        → meaning.exits (state core.old m b) word inst.now ≡ Went result (state core.new m b) }
+        → meaning.exits (state core.old m b) word decoded.now.inst ≡ Went result (state core.new m b) }
 {
     core.exit = Some(read(&core.regs, 10));
-    go_on(core, word, inst, None, None)
+    go_on(core, word, decoded, None, None)
 }
 
 #[tactic(auto, unfolding(crate::specs::Next::sets_break))]
-fn set_break(core: &mut Core, word: u32, inst: &Inst) -> Event
+fn set_break(core: &mut Core, word: u32, decoded: &Decoded) -> Event
     ensures { (m : Words) (b : Buffers)
-        → meaning.sets_break (state core.old m b) word inst.now
+        → meaning.sets_break (state core.old m b) word decoded.now.inst
         ≡ Went result (state core.new m b) }
 {
     let value = read(&core.regs, 10);
     if core.heap_low <= value && value - core.heap_low <= HEAP_LIMIT {
         core.brk = value;
-        return answer(core, word, inst, value, None);
+        return answer(core, word, decoded, value, None);
     }
     let brk = core.brk;
-    answer(core, word, inst, brk, None)
+    answer(core, word, decoded, brk, None)
 }

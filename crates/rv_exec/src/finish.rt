@@ -7,7 +7,7 @@ ghost use Rattle.rv_exec.specs.Next as meaning;
 
 use crate::event::{Buffer, DataRef, Event, Flow, TrapKind};
 use crate::state::Core;
-use rv_isa::{Inst, class_of, dest, sources};
+use rv_isa::Decoded;
 
 /// The address of the instruction behind the one at `pc`.
 #[inline(always)]
@@ -37,7 +37,7 @@ pub fn set_register(core: &mut Core, rd: u8, value: u32)
 pub fn complete(
     core: &mut Core,
     word: u32,
-    inst: &Inst,
+    decoded: &Decoded,
     access: Option<DataRef>,
     control: Flow,
     next: u32,
@@ -45,17 +45,16 @@ pub fn complete(
 ) -> Event
     requires { next % 4 ≡ 0 }
     ensures { (m : Words) (b : Buffers)
-        → meaning.completes (state core.old m b) word inst.now access control next wrote
+        → meaning.completes (state core.old m b) word decoded.now.inst access control next wrote
         ≡ Went result (state core.new m b) }
 {
-    let (first, second) = sources(inst);
     let event = Event {
         pc: core.pc,
         fetched: word,
-        class: class_of(inst),
-        first,
-        second,
-        dest: dest(inst),
+        class: decoded.class,
+        first: decoded.first,
+        second: decoded.second,
+        dest: decoded.dest,
         access,
         control,
         next,
@@ -71,16 +70,16 @@ pub fn complete(
 pub fn go_on(
     core: &mut Core,
     word: u32,
-    inst: &Inst,
+    decoded: &Decoded,
     access: Option<DataRef>,
     wrote: Option<Buffer>,
 ) -> Event
     ensures { (m : Words) (b : Buffers)
-        → meaning.goes_on (state core.old m b) word inst.now access wrote
+        → meaning.goes_on (state core.old m b) word decoded.now.inst access wrote
         ≡ Went result (state core.new m b) }
 {
     let next = following(core.pc);
-    complete(core, word, inst, access, Flow::Straight, next, wrote)
+    complete(core, word, decoded, access, Flow::Straight, next, wrote)
 }
 
 /// The same, with a value for a register.
@@ -89,7 +88,7 @@ pub fn go_on(
 pub fn compute(
     core: &mut Core,
     word: u32,
-    inst: &Inst,
+    decoded: &Decoded,
     rd: u8,
     value: u32,
     access: Option<DataRef>,
@@ -97,11 +96,11 @@ pub fn compute(
 ) -> Event
     requires { rd < 32 }
     ensures { (m : Words) (b : Buffers)
-        → meaning.computes (state core.old m b) word inst.now rd value access wrote
+        → meaning.computes (state core.old m b) word decoded.now.inst rd value access wrote
         ≡ Went result (state core.new m b) }
 {
     set_register(core, rd, value);
-    go_on(core, word, inst, access, wrote)
+    go_on(core, word, decoded, access, wrote)
 }
 
 #[tactic(auto, unfolding(crate::specs::Next::branches))]
@@ -109,12 +108,12 @@ pub fn compute(
 pub fn branch(
     core: &mut Core,
     word: u32,
-    inst: &Inst,
+    decoded: &Decoded,
     taken: bool,
     target: u32,
 ) -> Result<Event, TrapKind>
     ensures leads { (m : Words) (b : Buffers)
-        → Leads (meaning.branches (state core.old m b) word inst.now taken target)
+        → Leads (meaning.branches (state core.old m b) word decoded.now.inst taken target)
         result (state core.new m b) }
     ensures unchanged { OnErr result (core.new ≡ core.old) }
 {
@@ -122,7 +121,15 @@ pub fn branch(
     if next % 4 != 0 {
         return Err(TrapKind::BadTarget);
     }
-    Ok(complete(core, word, inst, None, Flow::Branch { taken }, next, None))
+    Ok(complete(
+        core,
+        word,
+        decoded,
+        None,
+        Flow::Branch { taken },
+        next,
+        None,
+    ))
 }
 
 #[tactic(auto, unfolding(crate::specs::Next::jumps))]
@@ -130,14 +137,14 @@ pub fn branch(
 pub fn jump(
     core: &mut Core,
     word: u32,
-    inst: &Inst,
+    decoded: &Decoded,
     rd: u8,
     target: u32,
     control: Flow,
 ) -> Result<Event, TrapKind>
     requires { rd < 32 }
     ensures leads { (m : Words) (b : Buffers)
-        → Leads (meaning.jumps (state core.old m b) word inst.now rd target control)
+        → Leads (meaning.jumps (state core.old m b) word decoded.now.inst rd target control)
         result (state core.new m b) }
     ensures unchanged { OnErr result (core.new ≡ core.old) }
 {
@@ -146,5 +153,5 @@ pub fn jump(
     }
     let link = following(core.pc);
     set_register(core, rd, link);
-    Ok(complete(core, word, inst, None, control, target, None))
+    Ok(complete(core, word, decoded, None, control, target, None))
 }

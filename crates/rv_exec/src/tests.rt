@@ -6,8 +6,9 @@ mod transfers;
 
 ghost use Rattle.std.specs.Prelude.{◌≡◌, ◌%◌, None};
 
-use crate::{Buffer, Core, Trap, TrapKind, step};
+use crate::{Buffer, Core, Trap, TrapKind, step, step_with};
 use memories::{Flat, Pair};
+use rv_isa::Decoder;
 use std::test::Fail;
 
 /// The word that `pair` holds beside the instruction.
@@ -85,6 +86,36 @@ fn missing_fetch(rt: HostRuntime) {
         pc: 0x5000,
     };
     assert_eq!(rt; step(&mut core, &mut pair(0x0000_0013)), Err(trap));
+}
+
+/// One word after another at the same address: what stands there now is done, whatever the decoder
+/// remembers.
+#[test]
+fn changed_instructions(rt: HostRuntime) -> Result<(), Fail> {
+    let cases = [
+        (0x0020_81b3, Some(9)), // add x3, x1, x2
+        (0x4020_81b3, Some(5)), // sub x3, x1, x2
+        (0x0020_81b3, Some(9)),
+        (0x0000_0000, None),
+        (0x0220_81b3, Some(14)), // mul x3, x1, x2
+    ];
+    let mut decoder = Decoder::new(rt.alloc())?;
+    for (word, value) in cases {
+        let mut core = core_at(0x1000, 7, 2);
+        let mut other = core;
+        let done = step_with(&mut decoder, &mut core, &mut pair(word));
+        let wanted = step(&mut other, &mut pair(word));
+        assert_eq!(rt; done, wanted, "at {word:#010x}");
+        assert_eq!(rt; done.is_ok(), value.is_some(), "at {word:#010x}");
+        let (regs, pc) = (core.regs, core.pc);
+        assert_eq!(rt; regs[3], value.unwrap_or(0), "at {word:#010x}");
+        assert_eq!(rt;
+            pc,
+            if value.is_some() { 0x1004 } else { 0x1000 },
+            "at {word:#010x}"
+        );
+    }
+    Ok(())
 }
 
 /// A program that divides -2^31 by -1 and by 0, stores the four results below address 0x100, writes

@@ -57,7 +57,10 @@ range_of_word w (Order opcode funct3 rest) b h = rw (← h.2) (omega arith)
 range_of_word w (Whole word) b h = tt
 
 -- what a word of 32 bits stands for can be encoded
+pub in_range : (w : ℕ) (i : Inst) → w < 2 ^ 32 → IsWordOf w i → IsEncodable i
+in_range w i b h = range_of_word w (row i) b h
+
 pub encodable :
     (w : ℕ) (r : Option Inst) → w < 2 ^ 32 → IfSome r (IsWordOf w) → IfSome r IsEncodable
-encodable w (Some i) b h = range_of_word w (row i) b h
+encodable w (Some i) b h = in_range w i b h
 encodable w None b h = tt

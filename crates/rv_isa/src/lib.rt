@@ -5,6 +5,8 @@
 //! chapters on RV32I, "Zifencei" and "M", and in its chapter of instruction set listings.
 #![tactic(auto)]
 
+mod decoded;
+mod decoder;
 mod decoding;
 mod encoding;
 mod field;
@@ -13,6 +15,8 @@ mod roles;
 #[cfg(test)]
 mod tests;
 
+pub use decoded::Decoded;
+pub use decoder::Decoder;
 pub use decoding::decode;
 pub use encoding::encode;
 pub use inst::Inst;

@@ -1,507 +1,28 @@
-use crate::{Class, Inst, class_of, decode, dest, encode, sources};
+mod arithmetic;
+mod references;
+mod transfers;
 
-/// Each instruction with the least, the greatest and telling immediates of its format. The words
-/// are those that LLVM's assembler gives for these instructions.
+use crate::{Class, Decoder, Inst, class_of, decode, dest, encode, sources};
+use std::process::Abort;
+use std::test::Fail;
+
+/// Each word stands for its instruction, and is encoded of it. The cases have each instruction with
+/// the least, the greatest and telling immediates of its format. The words are those that LLVM's
+/// assembler gives for these instructions.
+pub fn agree(rt: &impl Abort, cases: &[(u32, Inst)]) {
+    for &(word, inst) in cases {
+        let decoded = decode(word);
+        assert_eq!(rt; decoded, Some(inst), "at {word:#010x}");
+        if let Some(found) = decoded {
+            assert_eq!(rt; encode(&found), word, "at {word:#010x}");
+        }
+    }
+}
+
+/// Fences and environment calls.
 #[test]
-fn words_of_every_instruction(rt: HostRuntime) {
+fn system(rt: HostRuntime) {
     let cases = [
-        (0x0000_00b7, Inst::Lui { rd: 1, imm: 0 }),
-        (
-            0x8000_0fb7,
-            Inst::Lui {
-                rd: 31,
-                imm: -2147483648,
-            },
-        ),
-        (
-            0x7fff_f537,
-            Inst::Lui {
-                rd: 10,
-                imm: 2147479552,
-            },
-        ),
-        (0xffff_f037, Inst::Lui { rd: 0, imm: -4096 }),
-        (0x0000_1297, Inst::Auipc { rd: 5, imm: 4096 }),
-        (
-            0x8000_0897,
-            Inst::Auipc {
-                rd: 17,
-                imm: -2147483648,
-            },
-        ),
-        (
-            0x8000_00ef,
-            Inst::Jal {
-                rd: 1,
-                imm: -1048576,
-            },
-        ),
-        (
-            0x7fff_f06f,
-            Inst::Jal {
-                rd: 0,
-                imm: 1048574,
-            },
-        ),
-        (0x0010_02ef, Inst::Jal { rd: 5, imm: 2048 }),
-        (0xffff_ffef, Inst::Jal { rd: 31, imm: -2 }),
-        (0x0000_116f, Inst::Jal { rd: 2, imm: 4096 }),
-        (
-            0x0000_8067,
-            Inst::Jalr {
-                rd: 0,
-                rs1: 1,
-                imm: 0,
-            },
-        ),
-        (
-            0x8002_80e7,
-            Inst::Jalr {
-                rd: 1,
-                rs1: 5,
-                imm: -2048,
-            },
-        ),
-        (
-            0x7fff_8fe7,
-            Inst::Jalr {
-                rd: 31,
-                rs1: 31,
-                imm: 2047,
-            },
-        ),
-        (
-            0x8000_0063,
-            Inst::Beq {
-                rs1: 0,
-                rs2: 0,
-                imm: -4096,
-            },
-        ),
-        (
-            0x7e1f_8fe3,
-            Inst::Beq {
-                rs1: 31,
-                rs2: 1,
-                imm: 4094,
-            },
-        ),
-        (
-            0x01f0_80e3,
-            Inst::Beq {
-                rs1: 1,
-                rs2: 31,
-                imm: 2048,
-            },
-        ),
-        (
-            0xff01_0fe3,
-            Inst::Beq {
-                rs1: 2,
-                rs2: 16,
-                imm: -2,
-            },
-        ),
-        (
-            0xfe02_9ee3,
-            Inst::Bne {
-                rs1: 5,
-                rs2: 0,
-                imm: -4,
-            },
-        ),
-        (
-            0x0094_1f63,
-            Inst::Bne {
-                rs1: 8,
-                rs2: 9,
-                imm: 30,
-            },
-        ),
-        (
-            0x40b5_4063,
-            Inst::Blt {
-                rs1: 10,
-                rs2: 11,
-                imm: 1024,
-            },
-        ),
-        (
-            0x80d6_50e3,
-            Inst::Bge {
-                rs1: 12,
-                rs2: 13,
-                imm: -2048,
-            },
-        ),
-        (
-            0x02f7_6063,
-            Inst::Bltu {
-                rs1: 14,
-                rs2: 15,
-                imm: 32,
-            },
-        ),
-        (
-            0xbf1f_7fe3,
-            Inst::Bgeu {
-                rs1: 30,
-                rs2: 17,
-                imm: -1026,
-            },
-        ),
-        (
-            0x8001_0083,
-            Inst::Lb {
-                rd: 1,
-                rs1: 2,
-                imm: -2048,
-            },
-        ),
-        (
-            0x7ff0_1f83,
-            Inst::Lh {
-                rd: 31,
-                rs1: 0,
-                imm: 2047,
-            },
-        ),
-        (
-            0xffcf_a303,
-            Inst::Lw {
-                rd: 6,
-                rs1: 31,
-                imm: -4,
-            },
-        ),
-        (
-            0x0001_2503,
-            Inst::Lw {
-                rd: 10,
-                rs1: 2,
-                imm: 0,
-            },
-        ),
-        (
-            0x0014_4803,
-            Inst::Lbu {
-                rd: 16,
-                rs1: 8,
-                imm: 1,
-            },
-        ),
-        (
-            0xfff7_d003,
-            Inst::Lhu {
-                rd: 0,
-                rs1: 15,
-                imm: -1,
-            },
-        ),
-        (
-            0x8011_0023,
-            Inst::Sb {
-                rs1: 2,
-                rs2: 1,
-                imm: -2048,
-            },
-        ),
-        (
-            0x7ff0_1fa3,
-            Inst::Sh {
-                rs1: 0,
-                rs2: 31,
-                imm: 2047,
-            },
-        ),
-        (
-            0xfe6f_ae23,
-            Inst::Sw {
-                rs1: 31,
-                rs2: 6,
-                imm: -4,
-            },
-        ),
-        (
-            0x02a1_2023,
-            Inst::Sw {
-                rs1: 2,
-                rs2: 10,
-                imm: 32,
-            },
-        ),
-        (
-            0x0108_2fa3,
-            Inst::Sw {
-                rs1: 16,
-                rs2: 16,
-                imm: 31,
-            },
-        ),
-        (
-            0x0000_0013,
-            Inst::Addi {
-                rd: 0,
-                rs1: 0,
-                imm: 0,
-            },
-        ),
-        (
-            0x05d0_0893,
-            Inst::Addi {
-                rd: 17,
-                rs1: 0,
-                imm: 93,
-            },
-        ),
-        (
-            0x8000_8f93,
-            Inst::Addi {
-                rd: 31,
-                rs1: 1,
-                imm: -2048,
-            },
-        ),
-        (
-            0x7fff_a093,
-            Inst::Slti {
-                rd: 1,
-                rs1: 31,
-                imm: 2047,
-            },
-        ),
-        (
-            0xfff1_b113,
-            Inst::Sltiu {
-                rd: 2,
-                rs1: 3,
-                imm: -1,
-            },
-        ),
-        (
-            0xfff2_c213,
-            Inst::Xori {
-                rd: 4,
-                rs1: 5,
-                imm: -1,
-            },
-        ),
-        (
-            0x4003_e313,
-            Inst::Ori {
-                rd: 6,
-                rs1: 7,
-                imm: 1024,
-            },
-        ),
-        (
-            0x00f4_f413,
-            Inst::Andi {
-                rd: 8,
-                rs1: 9,
-                imm: 15,
-            },
-        ),
-        (
-            0x0001_1093,
-            Inst::Slli {
-                rd: 1,
-                rs1: 2,
-                imm: 0,
-            },
-        ),
-        (
-            0x01f2_1193,
-            Inst::Slli {
-                rd: 3,
-                rs1: 4,
-                imm: 31,
-            },
-        ),
-        (
-            0x0013_5293,
-            Inst::Srli {
-                rd: 5,
-                rs1: 6,
-                imm: 1,
-            },
-        ),
-        (
-            0x01ff_5f93,
-            Inst::Srli {
-                rd: 31,
-                rs1: 30,
-                imm: 31,
-            },
-        ),
-        (
-            0x41f4_5393,
-            Inst::Srai {
-                rd: 7,
-                rs1: 8,
-                imm: 31,
-            },
-        ),
-        (
-            0x4105_5493,
-            Inst::Srai {
-                rd: 9,
-                rs1: 10,
-                imm: 16,
-            },
-        ),
-        (
-            0x4006_5593,
-            Inst::Srai {
-                rd: 11,
-                rs1: 12,
-                imm: 0,
-            },
-        ),
-        (
-            0x010f_80b3,
-            Inst::Add {
-                rd: 1,
-                rs1: 31,
-                rs2: 16,
-            },
-        ),
-        (
-            0x41b3_0333,
-            Inst::Sub {
-                rd: 6,
-                rs1: 6,
-                rs2: 27,
-            },
-        ),
-        (
-            0x0066_95b3,
-            Inst::Sll {
-                rd: 11,
-                rs1: 13,
-                rs2: 6,
-            },
-        ),
-        (
-            0x011a_2833,
-            Inst::Slt {
-                rd: 16,
-                rs1: 20,
-                rs2: 17,
-            },
-        ),
-        (
-            0x01cd_bab3,
-            Inst::Sltu {
-                rd: 21,
-                rs1: 27,
-                rs2: 28,
-            },
-        ),
-        (
-            0x0071_4d33,
-            Inst::Xor {
-                rd: 26,
-                rs1: 2,
-                rs2: 7,
-            },
-        ),
-        (
-            0x0124_dfb3,
-            Inst::Srl {
-                rd: 31,
-                rs1: 9,
-                rs2: 18,
-            },
-        ),
-        (
-            0x41d8_5233,
-            Inst::Sra {
-                rd: 4,
-                rs1: 16,
-                rs2: 29,
-            },
-        ),
-        (
-            0x008b_e4b3,
-            Inst::Or {
-                rd: 9,
-                rs1: 23,
-                rs2: 8,
-            },
-        ),
-        (
-            0x013f_7733,
-            Inst::And {
-                rd: 14,
-                rs1: 30,
-                rs2: 19,
-            },
-        ),
-        (
-            0x03e2_89b3,
-            Inst::Mul {
-                rd: 19,
-                rs1: 5,
-                rs2: 30,
-            },
-        ),
-        (
-            0x0296_1c33,
-            Inst::Mulh {
-                rd: 24,
-                rs1: 12,
-                rs2: 9,
-            },
-        ),
-        (
-            0x0349_aeb3,
-            Inst::Mulhsu {
-                rd: 29,
-                rs1: 19,
-                rs2: 20,
-            },
-        ),
-        (
-            0x03fd_3133,
-            Inst::Mulhu {
-                rd: 2,
-                rs1: 26,
-                rs2: 31,
-            },
-        ),
-        (
-            0x02a0_c3b3,
-            Inst::Div {
-                rd: 7,
-                rs1: 1,
-                rs2: 10,
-            },
-        ),
-        (
-            0x0354_5633,
-            Inst::Divu {
-                rd: 12,
-                rs1: 8,
-                rs2: 21,
-            },
-        ),
-        (
-            0x0207_e8b3,
-            Inst::Rem {
-                rd: 17,
-                rs1: 15,
-                rs2: 0,
-            },
-        ),
-        (
-            0x02bb_7b33,
-            Inst::Remu {
-                rd: 22,
-                rs1: 22,
-                rs2: 11,
-            },
-        ),
         (0x0ff0_000f, Inst::Fence { rest: 0x0ff0_0000 }),
         (0x0310_000f, Inst::Fence { rest: 0x0310_0000 }),
         (0x8330_000f, Inst::Fence { rest: 0x8330_0000 }),
@@ -509,13 +30,7 @@ fn words_of_every_instruction(rt: HostRuntime) {
         (0x0000_0073, Inst::Ecall),
         (0x0010_0073, Inst::Ebreak),
     ];
-    for (word, inst) in cases {
-        let decoded = decode(word);
-        assert_eq!(rt; decoded, Some(inst), "at {word:#010x}");
-        if let Some(found) = decoded {
-            assert_eq!(rt; encode(&found), word, "at {word:#010x}");
-        }
-    }
+    agree(&rt, &cases);
 }
 
 /// Fences keep whatever their free bits are.
@@ -601,4 +116,38 @@ fn roles(rt: HostRuntime) {
             assert!(rt; false, "{word:#010x} is decoded");
         }
     }
+}
+
+/// The same address with one word after another, and addresses that share a place in the decoder.
+/// Whatever came before, a word is decoded as if it stood alone.
+#[test]
+fn decoder(rt: HostRuntime) -> Result<(), Fail> {
+    let cases = [
+        (0x0000_1000, 0x0000_0013), // addi x0, x0, 0
+        (0x0000_1000, 0x0000_0013),
+        (0x0000_1000, 0x4073_02b3), // sub x5, x6, x7
+        (0x0000_5000, 0x0273_32b3), // mulhu x5, x6, x7
+        (0x0000_1000, 0x4073_02b3),
+        (0x0000_1000, 0x0000_0000), // no instruction
+        (0x0000_1000, 0x4073_02b3),
+        (0x0000_0ffc, 0x0000_0073), // ecall
+        (0xffff_fffc, 0xfe51_2e23), // sw x5, -4(x2)
+    ];
+    let mut decoder = Decoder::new(rt.alloc())?;
+    for (addr, word) in cases {
+        let found = decoder.decode(addr, word);
+        let inst = decode(word);
+        assert_eq!(rt; found.map(|decoded| decoded.inst), inst, "at {word:#010x}");
+        if let Some(decoded) = found {
+            let inst = decoded.inst;
+            assert_eq!(rt; decoded.class, class_of(&inst), "at {word:#010x}");
+            assert_eq!(rt;
+                (decoded.first, decoded.second),
+                sources(&inst),
+                "at {word:#010x}"
+            );
+            assert_eq!(rt; decoded.dest, dest(&inst), "at {word:#010x}");
+        }
+    }
+    Ok(())
 }

@@ -129,17 +129,33 @@ none_first low a i ws es at h =
     find_miss low a ws es
     (λ k b e. let same : i ≡ k = at.place_of k e in absurd (omega arith))
 
+-- the heap's end is below the stack, so what is in the stack is no key of the first block
+none_below :
+    (low heap_low a : ℕ) (ws st : List ℕ) (es : List (ℕ × ℕ))
+    → AreBlocks low heap_low ws st → 0x7FF00000 ≤ a
+    → map.find nat_cmp a (block low ws ++ es) ≡ map.find nat_cmp a es
+none_below low heap_low a ws st es are above =
+    find_miss low a ws es (λ k h e. absurd (omega (arith, are.words, are.highest)))
+
 second_hit :
-    (low heap_low a i j : ℕ) (ws st : List ℕ)
-    → AreBlocks low heap_low ws st → IsPlace low a i → length ws ≤ i → IsPlace 0x7FF00000 a j
+    (low heap_low a j : ℕ) (ws st : List ℕ)
+    → AreBlocks low heap_low ws st → 0x7FF00000 ≤ a → IsPlace 0x7FF00000 a j
     → word_at (words_of low ws st) a ≡ slice_get st j
-second_hit low heap_low a i j ws st are at past second =
-    entries_of low a ws st ∙ none_first low a i ws (block 0x7FF00000 st ++ []) at past
+second_hit low heap_low a j ws st are above second =
+    entries_of low a ws st ∙ none_below low heap_low a ws st (block 0x7FF00000 st ++ []) are above
     ∙ (elim (cases_lt j (length st)) [
       | inl lt ↦ find_hit 0x7FF00000 a j st [] (second.address (omega (arith, are.stack))) lt
       | inr ge ↦
           none_first 0x7FF00000 a j st [] second ge ∙ sym (slice_get_past st j ge)
     ])
+
+first_miss :
+    (low heap_low a i : ℕ) (ws st : List ℕ)
+    → AreBlocks low heap_low ws st → IsPlace low a i → length ws ≤ i → a < 0x7FF00000
+    → word_at (words_of low ws st) a ≡ None
+first_miss low heap_low a i ws st are at past below =
+    entries_of low a ws st ∙ none_first low a i ws (block 0x7FF00000 st ++ []) at past
+    ∙ find_miss 0x7FF00000 a st [] (λ k h e. absurd (omega arith))
 
 first_set :
     (low heap_low a i v : ℕ) (ws st : List ℕ)
@@ -154,14 +170,14 @@ first_set low heap_low a i v ws st are at h =
     ∙ sym (get_stored (words_of low ws st) a v q))
 
 second_set :
-    (low heap_low a i j v : ℕ) (ws st : List ℕ)
-    → AreBlocks low heap_low ws st → IsPlace low a i → length ws ≤ i → IsPlace 0x7FF00000 a j
-    → j < length st
+    (low heap_low a j v : ℕ) (ws st : List ℕ)
+    → AreBlocks low heap_low ws st → 0x7FF00000 ≤ a → IsPlace 0x7FF00000 a j → j < length st
     → words_of low ws (slice_set st j v) ≡ stored (words_of low ws st) a v
-second_set low heap_low a i j v ws st are at past second h =
+second_set low heap_low a j v ws st are above second h =
     let place : a ≡ 0x7FF00000 + 4 * j = second.address (omega (arith, are.stack)) in
     let none : map.find nat_cmp a (block low ws) ≡ None =
-    ap (map.find nat_cmp a) (sym (append-nil (block low ws))) ∙ none_first low a i ws [] at past in
+    ap (map.find nat_cmp a) (sym (append-nil (block low ws)))
+    ∙ none_below low heap_low a ws st [] are above in
     map.same_map nat_cmp_total map.nat_cmp-IsAntisymmetric _ _
     (λ q. entries_of low q ws (slice_set st j v)
     ∙ find_behind q a v (block low ws) (block 0x7FF00000 (slice_set st j v) ++ [])
@@ -170,56 +186,57 @@ second_set low heap_low a i j v ws st are at past second h =
     ∙ (rw (← entries_of low q ws st))
     ∙ sym (get_stored (words_of low ws st) a v q))
 
--- the word at an address is that at its place in the first block, or else that in the second
+-- below the stack the word at an address is that at its place in the first block, and from there on
+-- that at its place in the second
 pub first_found :
-    (low heap_low a i word : ℕ) (ws st : List ℕ)
-    → AreBlocks low heap_low ws st → IsPlace low a i → Some word ≡ slice_get ws i
-    → Some word ≡ word_at (words_of low ws st) a
-first_found low heap_low a i word ws st are first found =
-    found ∙ sym (first_hit low heap_low a i ws st are first (slice_get_within ws i word (sym found)))
+    (low heap_low a i : ℕ) (ws st : List ℕ)
+    → AreBlocks low heap_low ws st → IsPlace low a i → a < 0x7FF00000
+    → slice_get ws i ≡ word_at (words_of low ws st) a
+first_found low heap_low a i ws st are first below =
+    elim (cases_lt i (length ws)) [
+      | inl lt ↦ sym (first_hit low heap_low a i ws st are first lt)
+      | inr ge ↦ slice_get_past ws i ge ∙ sym (first_miss low heap_low a i ws st are first ge below)
+    ]
 
 pub second_found :
-    (low heap_low a i j : ℕ) (ws st : List ℕ)
-    → AreBlocks low heap_low ws st → IsPlace low a i → IsPlace 0x7FF00000 a j
-    → None ≡ slice_get ws i → slice_get st j ≡ word_at (words_of low ws st) a
-second_found low heap_low a i j ws st are first second none =
-    elim (cases_lt i (length ws)) [
-      | inl lt ↦
-          let some : slice_get ws i ≡ Some (slice_index ws i) = slice_get-get_or ws i 0 lt in
-          absurd (cc)
-      | inr ge ↦ sym (second_hit low heap_low a i j ws st are first ge second)
-    ]
+    (low heap_low a j : ℕ) (ws st : List ℕ)
+    → AreBlocks low heap_low ws st → IsPlace 0x7FF00000 a j → 0x7FF00000 ≤ a
+    → slice_get st j ≡ word_at (words_of low ws st) a
+second_found low heap_low a j ws st are second above =
+    sym (second_hit low heap_low a j ws st are above second)
 
 -- what is told of a word that is written, and the words after it
 pub first_written :
-    (low heap_low a i v : ℕ) (ws st : List ℕ)
-    → AreBlocks low heap_low ws st → IsPlace low a i → nat_lt i (length ws) ≡ true
-    → (true ≡ is_some (word_at (words_of low ws st) a))
-    × (words_of low (slice_set ws i v) st ≡ stored (words_of low ws st) a v)
-first_written low heap_low a i v ws st are first held =
+    (low heap_low a i v : ℕ) (held : Bool) (ws st : List ℕ)
+    → AreBlocks low heap_low ws st → IsPlace low a i → a < 0x7FF00000
+    → held ≡ nat_lt i (length ws)
+    → (held ≡ is_some (word_at (words_of low ws st) a))
+    × (words_of low (if held then slice_set ws i v else ws) st
+    ≡ (if held then stored (words_of low ws st) a v else words_of low ws st))
+first_written low heap_low a i v true ws st are first below held =
     let h : i < length ws = grind (arith, nat_tests) in (
       sym (ap is_some (first_hit low heap_low a i ws st are first h ∙ slice_get-get_or ws i 0 h)),
       first_set low heap_low a i v ws st are first h,
     )
+first_written low heap_low a i v false ws st are first below held =
+    let past : length ws ≤ i = grind (arith, nat_tests) in
+    (sym (ap is_some (first_miss low heap_low a i ws st are first past below)), refl)
 
 pub second_written :
-    (low heap_low a i j v : ℕ) (held : Bool) (ws st : List ℕ)
-    → AreBlocks low heap_low ws st → IsPlace low a i → IsPlace 0x7FF00000 a j
-    → nat_lt i (length ws) ≡ false → nat_lt j (length st) ≡ held
+    (low heap_low a j v : ℕ) (held : Bool) (ws st : List ℕ)
+    → AreBlocks low heap_low ws st → IsPlace 0x7FF00000 a j → 0x7FF00000 ≤ a
+    → held ≡ nat_lt j (length st)
     → (held ≡ is_some (word_at (words_of low ws st) a))
     × (words_of low ws (if held then slice_set st j v else st)
     ≡ (if held then stored (words_of low ws st) a v else words_of low ws st))
-second_written low heap_low a i j v true ws st are first second none held =
-    let past : length ws ≤ i = grind (arith, nat_tests) in
+second_written low heap_low a j v true ws st are second above held =
     let h : j < length st = grind (arith, nat_tests) in (
-      sym (ap is_some (second_hit low heap_low a i j ws st are first past second
+      sym (ap is_some (second_hit low heap_low a j ws st are above second
           ∙ slice_get-get_or st j 0 h)),
-      second_set low heap_low a i j v ws st are first past second h,
+      second_set low heap_low a j v ws st are above second h,
     )
-second_written low heap_low a i j v false ws st are first second none held =
-    let past : length ws ≤ i = grind (arith, nat_tests) in
-    let beyond : length st ≤ j = grind (arith, nat_tests) in (
-      sym (ap is_some (second_hit low heap_low a i j ws st are first past second
-          ∙ slice_get_past st j beyond)),
+second_written low heap_low a j v false ws st are second above held =
+    let past : length st ≤ j = grind (arith, nat_tests) in (
+      sym (ap is_some (second_hit low heap_low a j ws st are above second ∙ slice_get_past st j past)),
       refl,
     )

@@ -41,6 +41,7 @@ impl Block {
     }
 
     /// The word of that number.
+    #[inline(always)]
     pub fn get(&self, at: usize) -> Option<u32>
         ensures { result ≡ slice_get self.now at }
     {
@@ -51,6 +52,7 @@ impl Block {
     }
 
     /// Changes the word of that number, and tells whether there is one.
+    #[inline(always)]
     pub fn set(&mut self, at: usize, value: u32) -> bool
         ensures held { result ≡ nat_lt at (length self.old) }
         ensures words { self.new ≡ (if result then slice_set self.old at value else self.old) }
@@ -69,6 +71,8 @@ impl Block {
 }
 
 /// Fills the front with zeros up to a word past its end, and a page further where there is one.
+#[cold]
+#[inline(never)]
 fn grow(front: &mut Vec<u32>, at: usize, size: usize)
     requires behind { vec_len front.old ≤ at }
     requires within { at < size }

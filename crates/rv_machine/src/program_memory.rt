@@ -63,6 +63,7 @@ impl ProgramMemory {
 /// and takes what is left over to the highest bits: an address that is not a multiple of 4 from the
 /// base on is beyond every block, as one below the base is.
 #[tactic(auto, using(crate::proofs::Places::rotated))]
+#[inline(always)]
 fn place(addr: u32, base: u32) -> usize
     requires { base ≤ 0x7FF00000 }
     ensures { IsPlace base addr result }
@@ -77,18 +78,22 @@ impl Memory for ProgramMemory {
 
     ghost sound = { λ m. AreBlocks m.low m.heap_low m.words m.stack };
 
+    #[inline(always)]
     fn load_word(&self, addr: u32) -> Option<u32> {
-        match self.words.get(place(addr, self.low)) {
-            Some(word) => Some(word),
-            None => self.stack.get(place(addr, STACK_LOW)),
+        if addr < STACK_LOW {
+            self.words.get(place(addr, self.low))
+        } else {
+            self.stack.get(place(addr, STACK_LOW))
         }
     }
 
+    #[inline(always)]
     fn store_word(&mut self, addr: u32, value: u32) -> bool {
-        if self.words.set(place(addr, self.low), value) {
-            return true;
+        if addr < STACK_LOW {
+            self.words.set(place(addr, self.low), value)
+        } else {
+            self.stack.set(place(addr, STACK_LOW), value)
         }
-        self.stack.set(place(addr, STACK_LOW), value)
     }
 
     fn covers(&self, addr: u32, len: u32) -> bool {

@@ -11,7 +11,8 @@ use crate::outcome::{MachineFault, Outcome};
 use crate::output::append;
 use crate::program_memory::ProgramMemory;
 use elf_image::Image;
-use rv_exec::{Core, Event, Memory, step};
+use rv_exec::{Core, Event, Memory, step_with};
+use rv_isa::Decoder;
 use smarts_base::NoMemory;
 use std::alloc::Global;
 use std::marker::Model;
@@ -31,6 +32,7 @@ const ANSWER: usize = 10;
 pub struct Whole {
     core: Core,
     memory: ProgramMemory,
+    decoder: Decoder,
     keep_output: bool,
     /// What the program has written so far, where it is kept.
     output: Vec<u8>,
@@ -71,6 +73,7 @@ impl Whole {
         Ok(Whole {
             core,
             memory,
+            decoder: Decoder::new(alloc)?,
             keep_output,
             output: Vec::new(alloc),
         })
@@ -85,16 +88,16 @@ impl Whole {
         ensures well_formed { IfOk result IsWellFormed }
     {
         let before = self.core.regs[ANSWER];
-        let event = match step(&mut self.core, &mut self.memory) {
+        let event = match step_with(&mut self.decoder, &mut self.core, &mut self.memory) {
             Ok(event) => event,
             Err(trap) => return Err(MachineFault::Trap(trap)),
+        };
+        let Some(buffer) = event.wrote else {
+            return Ok(event);
         };
         if !self.keep_output {
             return Ok(event);
         }
-        let Some(buffer) = event.wrote else {
-            return Ok(event);
-        };
         match append(&mut self.output, &self.memory, buffer) {
             Ok(()) => Ok(event),
             Err(NoMemory) => {

@@ -1,16 +1,17 @@
-use Rattle.std.proofs.Common.{◌∙◌}
+use Rattle.std.proofs.Common.{arith, ◌∙◌}
 use Rattle.rv_machine.proofs.Finds.{first_found, second_found}
 use Rattle.rv_machine.proofs.program_memory.ProgramMemoryMemory.load_word.Goals as goal
 
-pub returns-in-Some : goal.returns-in-Some
-returns-in-Some c =
+pub returns-then-addr-lt-STACK_LOW : goal.returns-then-addr-lt-STACK_LOW
+returns-then-addr-lt-STACK_LOW c =
     let self = c.args.self.now in
-    first_found self.low self.heap_low c.args.addr c.place.result c.in-Some.word self.words
-    self.stack c.requires c.place.ensures c.in-Some.ensures
+    c.get.ensures
+    ∙ first_found self.low self.heap_low c.args.addr c.place.result self.words self.stack
+    c.requires c.place.ensures (omega arith)
 
-pub returns-in-None : goal.returns-in-None
-returns-in-None c =
+pub returns-else-addr-lt-STACK_LOW : goal.returns-else-addr-lt-STACK_LOW
+returns-else-addr-lt-STACK_LOW c =
     let self = c.args.self.now in
-    c.get-in-None.ensures
-    ∙ second_found self.low self.heap_low c.args.addr c.place.result c.place-in-None.result
-    self.words self.stack c.requires c.place.ensures c.place-in-None.ensures c.in-None.ensures
+    c.get-else-addr-lt-STACK_LOW.ensures
+    ∙ second_found self.low self.heap_low c.args.addr c.place-else-addr-lt-STACK_LOW.result
+    self.words self.stack c.requires c.place-else-addr-lt-STACK_LOW.ensures (omega arith)

@@ -1,33 +1,34 @@
-use Rattle.std.proofs.Common.{List, ℕ, ap, sym, ◌∙◌}
+use Rattle.std.proofs.Common.{List, ℕ, ap, arith, ◌∙◌}
 use Rattle.rv_machine.specs.Blocks.{words_of}
 use Rattle.rv_machine.proofs.Finds.{first_written, second_written}
 use Rattle.rv_machine.proofs.program_memory.ProgramMemoryMemory.store_word.Goals as goal
 
-pub returns-then-set-clause-held : goal.returns-then-set-clause-held
-returns-then-set-clause-held c =
+pub returns-then-addr-lt-STACK_LOW-clause-held : goal.returns-then-addr-lt-STACK_LOW-clause-held
+returns-then-addr-lt-STACK_LOW-clause-held c =
     let self = c.args.self.now in
-    (first_written self.low self.heap_low c.args.addr c.place.result c.args.value self.words
-    self.stack c.requires c.place.ensures (sym c.if-set.ensures.held)).0
+    (first_written self.low self.heap_low c.args.addr c.place.result c.args.value c.set.result
+    self.words self.stack c.requires c.place.ensures (omega arith) c.set.ensures.held).0
 
-pub returns-then-set-clause-words : goal.returns-then-set-clause-words
-returns-then-set-clause-words c =
+pub returns-then-addr-lt-STACK_LOW-clause-words : goal.returns-then-addr-lt-STACK_LOW-clause-words
+returns-then-addr-lt-STACK_LOW-clause-words c =
     let self = c.args.self.now in
-    ap (λ (ws : List ℕ). words_of self.low ws self.stack) c.if-set.ensures.words
-    ∙ (first_written self.low self.heap_low c.args.addr c.place.result c.args.value self.words
-    self.stack c.requires c.place.ensures (sym c.if-set.ensures.held)).1
+    ap (λ (ws : List ℕ). words_of self.low ws self.stack) c.set.ensures.words
+    ∙ (first_written self.low self.heap_low c.args.addr c.place.result c.args.value c.set.result
+    self.words self.stack c.requires c.place.ensures (omega arith) c.set.ensures.held).1
 
-pub returns-clause-held : goal.returns-clause-held
-returns-clause-held c =
+pub returns-else-addr-lt-STACK_LOW-clause-held : goal.returns-else-addr-lt-STACK_LOW-clause-held
+returns-else-addr-lt-STACK_LOW-clause-held c =
     let self = c.args.self.now in
-    (second_written self.low self.heap_low c.args.addr c.place.result c.place-2.result
-    c.args.value c.set-2.result self.words self.stack c.requires c.place.ensures c.place-2.ensures
-    (sym c.if-set.ensures.held) (sym c.set-2.ensures.held)).0
+    let set = c.set-else-addr-lt-STACK_LOW in
+    (second_written self.low self.heap_low c.args.addr c.place-else-addr-lt-STACK_LOW.result
+    c.args.value set.result self.words self.stack c.requires
+    c.place-else-addr-lt-STACK_LOW.ensures (omega arith) set.ensures.held).0
 
-pub returns-clause-words : goal.returns-clause-words
-returns-clause-words c =
+pub returns-else-addr-lt-STACK_LOW-clause-words : goal.returns-else-addr-lt-STACK_LOW-clause-words
+returns-else-addr-lt-STACK_LOW-clause-words c =
     let self = c.args.self.now in
-    ap (λ (ws : List ℕ). words_of self.low ws c.set-2.new.self) c.if-set.ensures.words
-    ∙ ap (λ (ws : List ℕ). words_of self.low self.words ws) c.set-2.ensures.words
-    ∙ (second_written self.low self.heap_low c.args.addr c.place.result c.place-2.result
-    c.args.value c.set-2.result self.words self.stack c.requires c.place.ensures c.place-2.ensures
-    (sym c.if-set.ensures.held) (sym c.set-2.ensures.held)).1
+    let set = c.set-else-addr-lt-STACK_LOW in
+    ap (λ (ws : List ℕ). words_of self.low self.words ws) set.ensures.words
+    ∙ (second_written self.low self.heap_low c.args.addr c.place-else-addr-lt-STACK_LOW.result
+    c.args.value set.result self.words self.stack c.requires
+    c.place-else-addr-lt-STACK_LOW.ensures (omega arith) set.ensures.held).1

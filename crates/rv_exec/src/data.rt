@@ -1,0 +1,147 @@
+ghost use Rattle.std.specs.Prelude.{◌≡◌, ◌<◌, ◌%◌, OnOk, OnErr};
+ghost use Rattle.rv_exec.specs.Bytes as bytes;
+ghost use Rattle.rv_exec.specs.declared.event.TrapKind.TheVariants as trap;
+ghost use Rattle.rv_exec.specs.Machine.{state, Leads};
+ghost use Rattle.rv_exec.specs.Next as meaning;
+
+use crate::action::Size;
+use crate::bytes::{loaded, size_of, with_part};
+use crate::event::{DataRef, Event, TrapKind};
+use crate::finish::{compute, go_on};
+use crate::memory::Memory;
+use crate::state::Core;
+use rv_isa::Decoded;
+
+/// A load. A load of a whole word has code of its own, which asks for no size.
+#[inline(always)]
+pub fn load<M: Memory>(
+    core: &mut Core,
+    memory: &M,
+    word: u32,
+    decoded: &Decoded,
+    rd: u8,
+    addr: u32,
+    size: Size,
+    signed: bool,
+) -> Result<Event, TrapKind>
+    requires sound { M.sound memory.now }
+    requires register { rd < 32 }
+    ensures leads { Leads
+        (meaning.loads
+        (meaning.data_at (M.words memory.now) addr (bytes.size_of size) trap.MisalignedLoad)
+        (state core.old (M.words memory.now) (M.buffers memory.now))
+        word decoded.now.inst rd addr size signed)
+        result (state core.new (M.words memory.now) (M.buffers memory.now)) }
+    ensures unchanged { OnErr result (core.new ≡ core.old) }
+{
+    match size {
+        Size::Word => load_sized(core, memory, word, decoded, rd, addr, Size::Word, signed),
+        Size::Byte | Size::Half => load_sized(core, memory, word, decoded, rd, addr, size, signed),
+    }
+}
+
+#[inline(always)]
+fn load_sized<M: Memory>(
+    core: &mut Core,
+    memory: &M,
+    word: u32,
+    decoded: &Decoded,
+    rd: u8,
+    addr: u32,
+    size: Size,
+    signed: bool,
+) -> Result<Event, TrapKind>
+    requires sound { M.sound memory.now }
+    requires register { rd < 32 }
+    ensures leads { Leads
+        (meaning.loads
+        (meaning.data_at (M.words memory.now) addr (bytes.size_of size) trap.MisalignedLoad)
+        (state core.old (M.words memory.now) (M.buffers memory.now))
+        word decoded.now.inst rd addr size signed)
+        result (state core.new (M.words memory.now) (M.buffers memory.now)) }
+    ensures unchanged { OnErr result (core.new ≡ core.old) }
+{
+    let before = data_word(memory, addr, size, TrapKind::MisalignedLoad)?;
+    let value = loaded(size, signed, before, addr);
+    let access = DataRef {
+        addr,
+        store: false,
+        before,
+    };
+    Ok(compute(core, word, decoded, rd, value, Some(access), None))
+}
+
+/// A store, in the same way.
+#[inline(always)]
+pub fn store<M: Memory>(
+    core: &mut Core,
+    memory: &mut M,
+    word: u32,
+    decoded: &Decoded,
+    addr: u32,
+    size: Size,
+    value: u32,
+) -> Result<Event, TrapKind>
+    requires { M.sound memory.old }
+    ensures leads { Leads
+        (meaning.stores
+        (meaning.data_at (M.words memory.old) addr (bytes.size_of size) trap.MisalignedStore)
+        (state core.old (M.words memory.old) (M.buffers memory.old))
+        word decoded.now.inst addr size value)
+        result (state core.new (M.words memory.new) (M.buffers memory.new)) }
+    ensures sound { M.sound memory.new }
+    ensures unchanged { OnErr result ((core.new ≡ core.old) × (memory.new ≡ memory.old)) }
+{
+    match size {
+        Size::Word => store_sized(core, memory, word, decoded, addr, Size::Word, value),
+        Size::Byte | Size::Half => store_sized(core, memory, word, decoded, addr, size, value),
+    }
+}
+
+#[inline(always)]
+fn store_sized<M: Memory>(
+    core: &mut Core,
+    memory: &mut M,
+    word: u32,
+    decoded: &Decoded,
+    addr: u32,
+    size: Size,
+    value: u32,
+) -> Result<Event, TrapKind>
+    requires { M.sound memory.old }
+    ensures leads { Leads
+        (meaning.stores
+        (meaning.data_at (M.words memory.old) addr (bytes.size_of size) trap.MisalignedStore)
+        (state core.old (M.words memory.old) (M.buffers memory.old))
+        word decoded.now.inst addr size value)
+        result (state core.new (M.words memory.new) (M.buffers memory.new)) }
+    ensures sound { M.sound memory.new }
+    ensures unchanged { OnErr result ((core.new ≡ core.old) × (memory.new ≡ memory.old)) }
+{
+    let before = data_word(memory, addr, size, TrapKind::MisalignedStore)?;
+    memory.store_word(addr & !3, with_part(size, before, addr, value));
+    let access = DataRef {
+        addr,
+        store: true,
+        before,
+    };
+    Ok(go_on(core, word, decoded, Some(access), None))
+}
+
+/// The word that holds the address of a load or a store.
+#[inline(always)]
+fn data_word<M: Memory>(
+    memory: &M,
+    addr: u32,
+    size: Size,
+    misaligned: TrapKind,
+) -> Result<u32, TrapKind>
+    requires { M.sound memory.now }
+    ensures value { result ≡ meaning.data_at (M.words memory.now) addr (bytes.size_of size) misaligned }
+    ensures aligned { OnOk result (addr % bytes.size_of size ≡ 0) }
+{
+    if addr % size_of(size) != 0 {
+        return Err(misaligned);
+    }
+    memory.load_word(addr & !3).ok_or(TrapKind::Missing)
+}
