@@ -1,6 +1,6 @@
 -- One more instruction in all parts of what is kept.
-use Rattle.std.proofs.Common.{◌≡◌, ◌≢◌, ◌+◌, ◌-◌, ◌*◌, ◌%◌, ◌^◌, ◌<◌, ◌≤◌, ◌==◌, ◌&&◌, ℕ, zero, suc, Bool, true, false, cond, if◌then◌else◌, List, [], ◌∷◌, length, take, get_or, set, max, filter, Option, Some, None, refl, sym, ◌∙◌, ap, subst, arith, inl, inr}
-use Rattle.std.specs.List.{slice_get, find}
+use Rattle.std.proofs.Common.{◌≡◌, ◌+◌, ◌-◌, ◌*◌, ◌%◌, ◌^◌, ◌<◌, ◌≤◌, ◌==◌, ◌&&◌, ℕ, zero, suc, Bool, true, false, cond, if◌then◌else◌, List, [], ◌∷◌, length, take, get_or, set, max, Option, Some, None, refl, sym, ◌∙◌, ap, arith, inl, inr}
+use Rattle.std.specs.List.{find}
 use Rattle.std.specs.Option.{IfSome}
 use Rattle.std.proofs.lemmas.Bool.{cases_eq, eq-eqb, ne_eqb}
 use Rattle.std.proofs.lemmas.List.{take-take, get_or-set_same, get_or-set_other, length-set}
@@ -15,10 +15,10 @@ use Rattle.ruu_timing.specs.declared.flight.Flight.{Flight}
 use Rattle.ruu_timing.specs.Class.{is_store}
 use Rattle.rv_isa.specs.declared.roles.Class.{Class}
 use Rattle.ruu_timing.specs.declared.issues.Slot.{Slot}
-use Rattle.ruu_timing.specs.Issues.{place_of, slot_at, one_more, dispatched, issued_in, HasIssued}
+use Rattle.ruu_timing.specs.Issues.{place_of, slot_at, one_more, dispatched, issued_in}
 use Rattle.ruu_timing.specs.Kept.{completed_by, latest_store, latest_with, HasWritten, HasStored, depth, span, IsFlight, IsKept, IsNoted}
-use Rattle.ruu_timing.specs.Rows.{Each, IsWithin, AreTimed, IsRetiredAfter, last_of}
-use Rattle.ruu_timing.specs.Times.{back, time_of, memory_ones, accesses, writes, stores_to, is_given, written, stored, timed_of, fetch_of, dispatch_of, ready_of, issue_of, retirement_of}
+use Rattle.ruu_timing.specs.Rows.{Each, IsWithin, AreTimed, last_of}
+use Rattle.ruu_timing.specs.Times.{time_of, memory_ones, accesses, writes, stores_to, is_given, stored, timed_of, fetch_of, dispatch_of, ready_of, issue_of, retirement_of}
 use Rattle.ruu_timing.proofs.Bounds.{retired, retired_near, small, last_small, each_filter, each_find}
 use Rattle.ruu_timing.proofs.IssueTable.{IsNext, issued_kept}
 use Rattle.ruu_timing.proofs.KeptLaws.{last_same, unit_waits}

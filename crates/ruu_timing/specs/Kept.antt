@@ -7,11 +7,10 @@ use Rattle.hierarchy.specs.declared.widths.Widths.{Widths}
 use Rattle.hierarchy.specs.Marked.{accesses_memory}
 use Rattle.ruu_timing.specs.declared.timed.Timed.{Timed}
 use Rattle.ruu_timing.specs.declared.flight.Flight.{Flight}
-use Rattle.ruu_timing.specs.declared.issues.Slot.{Slot}
 use Rattle.ruu_timing.specs.Class.{is_load, is_store, is_ecall}
 use Rattle.ruu_timing.specs.Issues.{HasIssued, IsPower, issued_in}
 use Rattle.ruu_timing.specs.Rows.{Each, IsWithin, AreTimed, last_of}
-use Rattle.ruu_timing.specs.Times.{back, time_of, memory_ones, written, stored, stores_to}
+use Rattle.ruu_timing.specs.Times.{back, time_of, memory_ones, written, stored}
 
 -- the dispatch with the loads and stores in a list of their own
 unfoldable pub dispatch_from : Widths → List Timed → List Timed → Marked → ℕ → ℕ

@@ -1,5 +1,4 @@
-use Rattle.std.proofs.Common.{◌+◌, ◌<◌, [], arith}
-use Rattle.ruu_timing.specs.Issues.{slot_at, alike_in}
+use Rattle.std.proofs.Common.{[]}
 use Rattle.ruu_timing.proofs.IssueTable.{claimed, power_some, room_small}
 use Rattle.ruu_timing.proofs.issues.issue_in.Goals as goal
 

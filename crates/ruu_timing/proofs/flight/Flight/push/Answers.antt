@@ -1,4 +1,4 @@
-use Rattle.std.proofs.Common.{◌≡◌, subst}
+use Rattle.std.proofs.Common.{subst}
 use Rattle.ruu_timing.specs.Kept.{IsNoted}
 use Rattle.ruu_timing.specs.Times.{timed_of}
 use Rattle.ruu_timing.proofs.KeptNext.{kept_next}

@@ -1,10 +1,10 @@
-use Rattle.std.proofs.Common.{◌≡◌, ◌<◌, List, length, take, refl, subst, arith}
+use Rattle.std.proofs.Common.{◌≡◌, List, length, take, refl, subst, arith}
 use Rattle.hierarchy.specs.declared.marked.Marked.{Marked}
 use Rattle.ruu_timing.specs.declared.timed.Timed.{Timed}
 use Rattle.ruu_timing.specs.Kept.{IsKept}
 use Rattle.ruu_timing.specs.Times.{times}
 use Rattle.ruu_timing.proofs.KeptNext.{kept_flight}
-use Rattle.ruu_timing.proofs.Totals.{few_times, times_more, marked_at}
+use Rattle.ruu_timing.proofs.Totals.{few_times, times_more}
 use Rattle.ruu_timing.proofs.flight.Flight.run.Goals as goal
 
 pub push-requires-clause-flight : goal.push-requires-clause-flight

@@ -1,4 +1,3 @@
-use Rattle.std.proofs.Common.{◌^◌, Some}
 use Rattle.ruu_timing.proofs.KeptNext.{stored_small}
 use Rattle.ruu_timing.proofs.flight.Flight.stored_after.Goals as goal
 

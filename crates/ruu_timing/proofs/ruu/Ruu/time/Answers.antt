@@ -1,4 +1,4 @@
-use Rattle.std.proofs.Common.{◌≡◌, arith}
+use Rattle.std.proofs.Common.{arith}
 use Rattle.ruu_timing.proofs.KeptNext.{kept_flight}
 use Rattle.ruu_timing.proofs.Totals.{cycles_between, none_kept}
 use Rattle.ruu_timing.proofs.ruu.Ruu.time.Goals as goal
