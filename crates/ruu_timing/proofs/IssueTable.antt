@@ -13,6 +13,7 @@ use Rattle.ruu_timing.specs.declared.issues.Slot.{Slot}
 use Rattle.ruu_timing.specs.declared.timed.Timed.{Timed}
 use Rattle.ruu_timing.specs.Class.{number_of, is_same, limit_of}
 use Rattle.ruu_timing.specs.Issues.{IsPower, idle, place_of, slot_at, alike_in, has_room, one_more, issued_in, dispatched, HasIssued}
+use Rattle.ruu_timing.proofs.Bounds.{each_more}
 use Rattle.ruu_timing.proofs.Slots.{limit_positive}
 use Rattle.ruu_timing.specs.Times.{issues_at, issues_alike, has_slot}
 use Rattle.ruu_timing.specs.Rows.{Each, last_of}
@@ -242,10 +243,6 @@ alike_kept earlier x slots start t class some has next behind =
           rw (other_kept earlier x slots start t some has next behind (λ e. other (sym e)), more, ne_eqb x.issue t other) old
     ]
 
-each_weaker : {X : Type 0} (P Q : X → Type 0) → ((x : X) → P x → Q x) → (xs : List X) → Each P xs → Each Q xs
-each_weaker P Q more [] each = tt
-each_weaker P Q more (x ∷ xs) each = (more x each.0, each_weaker P Q more xs each.1)
-
 pub issued_kept :
     (earlier : List Timed) (x : Timed) (slots : List Slot) (start : ℕ) → 0 < length slots
     → HasIssued earlier slots start → IsNext earlier x (length slots)
@@ -257,7 +254,7 @@ issued_kept earlier x slots start some has next =
       issued = λ u behind. count_kept earlier x slots start u some has next behind;
       alike = λ u class behind. alike_kept earlier x slots start u class some has next behind;
       before = each_set (λ s. s.cycle ≤ start + x.retirement) slots (place_of slots t) more
-          (each_weaker (λ s. s.cycle ≤ start + last_of earlier) (λ s. s.cycle ≤ start + x.retirement)
+          (each_more (λ s. s.cycle ≤ start + last_of earlier) (λ s. s.cycle ≤ start + x.retirement)
           (λ s le. omega (arith, le, next.rises)) slots has.before)
           (omega (arith, cycle_at slots start t, next.issued));
       sevens = each_set (λ s. length s.alike ≡ 7) slots (place_of slots t) more has.sevens
@@ -280,7 +277,7 @@ none_issued slots start some before sevens =
     record {
       issued = λ t late. rw (gone t late) refl;
       alike = λ t class late. rw (gone t late) (get_or-replicate 7 (number_of class) 0 0 (number_below class));
-      before = each_weaker (λ s. s.cycle ≤ start) (λ s. s.cycle ≤ start + 0) (λ s le. omega (arith, le)) slots before;
+      before = each_more (λ s. s.cycle ≤ start) (λ s. s.cycle ≤ start + 0) (λ s le. omega (arith, le)) slots before;
       sevens = sevens;
     }
 

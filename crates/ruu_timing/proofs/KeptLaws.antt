@@ -1,7 +1,8 @@
 -- The latest instructions are enough for the times of the next one.
-use Rattle.std.proofs.Common.{◌≡◌, ◌+◌, ◌-◌, ◌<◌, ◌≤◌, ℕ, zero, suc, Bool, true, false, cond, if◌then◌else◌, List, [], ◌∷◌, take, drop, max, nat_le, filter, Option, Some, None, refl, sym, ◌∙◌, ap, subst, arith}
+use Rattle.std.proofs.Common.{◌≡◌, ◌+◌, ◌-◌, ◌<◌, ◌≤◌, ℕ, zero, suc, Bool, true, false, cond, if◌then◌else◌, List, [], ◌∷◌, map, take, drop, max, nat_le, filter, Option, Some, None, option_map, refl, sym, ◌∙◌, ap, subst, arith}
 use Rattle.std.specs.Option.{IfSome}
 use Rattle.std.specs.List.{slice_get, find}
+use Rattle.std.proofs.lemmas.Option.{slice_get-map}
 use Rattle.std.proofs.lemmas.Bool.{false≢true, leb-true, and_parts}
 use Rattle.rv_isa.specs.declared.roles.Class.{Class}
 use Rattle.rv_isa.specs.declared.roles.Class.TheVariants.{Alu, Mul, Div, Load, Store, Control, Ecall}
@@ -11,13 +12,14 @@ use Rattle.hierarchy.specs.Widths.{AreWidths}
 use Rattle.hierarchy.specs.Marked.{accesses_memory}
 use Rattle.ruu_timing.specs.declared.timed.Timed.{Timed}
 use Rattle.ruu_timing.specs.declared.flight.Flight.{Flight}
+use Rattle.ruu_timing.specs.declared.row.Row.{Row}
 use Rattle.ruu_timing.specs.Class.{is_load, is_store}
 use Rattle.ruu_timing.specs.declared.issues.Slot.{Slot}
 use Rattle.ruu_timing.specs.Issues.{dispatched, has_room, HasIssued}
 use Rattle.ruu_timing.specs.Laws.{IsFirst}
-use Rattle.ruu_timing.specs.Kept.{dispatch_from, completed, latest_store, stored_after, ready_from, HasWritten, HasStored, depth, IsKept, IsRegister}
+use Rattle.ruu_timing.specs.Kept.{row_of, row_back, row_time, fetch_from, dispatch_from, retirement_from, completed, latest_store, stored_after, ready_from, HasWritten, HasStored, depth, IsKept, IsRegister}
 use Rattle.ruu_timing.specs.Rows.{Each, AreTimed, AreInOrder, last_of}
-use Rattle.ruu_timing.specs.Times.{back, time_of, fetch_of, dispatch_of, memory_ones, accesses, stores_to, is_given, written, stored, ready_of, issue_of, retirement_of, timed_of}
+use Rattle.ruu_timing.specs.Times.{back, time_of, next_fetch, fetch_of, dispatch_of, memory_ones, accesses, stores_to, is_given, written, stored, ready_of, issue_of, retirement_of, timed_of}
 use Rattle.ruu_timing.proofs.Bounds.{each_filter, each_find}
 use Rattle.ruu_timing.proofs.IssueTable.{same_slot}
 use Rattle.ruu_timing.proofs.Nexts.{IsDispatch, ready_is, dispatched_before}
@@ -32,41 +34,47 @@ slice_get_take (suc n) (suc i) (x ∷ xs) below = slice_get_take n i xs (omega a
 pub back_take : (n k : ℕ) (xs : List Timed) → 1 ≤ k → k ≤ n → back (take n xs) k ≡ back xs k
 back_take n k xs some le = slice_get_take n (k - 1) xs (omega arith)
 
+-- what a row says of an instruction
+row_seen :
+    (time : Row → ℕ) (n k : ℕ) (earlier : List Timed) → 1 ≤ k → k ≤ n
+    → row_time time (row_back (take n (map row_of earlier)) k) ≡ time_of (λ x. time (row_of x)) (back earlier k)
+row_seen time n k earlier some le =
+    let cut : row_back (take n (map row_of earlier)) k ≡ slice_get (map row_of earlier) (k - 1) =
+    slice_get_take n (k - 1) (map row_of earlier) (omega arith) in
+    rw (cut, slice_get-map row_of earlier (k - 1)) (go (slice_get earlier (k - 1)))
+  where
+    go : (found : Option Timed) → row_time time (option_map row_of found) ≡ time_of (λ x. time (row_of x)) found
+    go None = refl
+    go (Some x) = refl
+
 pub fetch_same :
     (w : Widths) (earlier : List Timed) (m : Marked) → AreWidths w
-    → fetch_of w (take (depth w) earlier) m ≡ fetch_of w earlier m
-unfolding fetch_of
+    → fetch_from w (time_of (next_fetch w) (back earlier 1)) (take (depth w) (map row_of earlier)) m ≡ fetch_of w earlier m
+unfolding fetch_from fetch_of
 fetch_same w earlier m widths =
     rw (
-      back_take (depth w) 1 earlier (omega arith) (omega arith),
-      back_take (depth w) w.queue earlier widths.queue.0 (omega (arith, widths.queue.1)),
-      back_take (depth w) w.fetch earlier widths.fetch.0 (omega (arith, widths.fetch.1)),
+      row_seen (λ r. r.dispatch) (depth w) w.queue earlier widths.queue.0 (omega (arith, widths.queue.1)),
+      row_seen (λ r. r.fetch + 1) (depth w) w.fetch earlier widths.fetch.0 (omega (arith, widths.fetch.1)),
     ) refl
 
 pub dispatch_same :
     (w : Widths) (earlier : List Timed) (m : Marked) (fetch : ℕ) → AreWidths w
-    → dispatch_from w (take (depth w) earlier) (take w.lsq (memory_ones earlier)) m fetch ≡ dispatch_of w earlier m fetch
+    → dispatch_from w (dispatched earlier) (last_of earlier) (take (depth w) (map row_of earlier)) (take w.lsq (memory_ones earlier)) m fetch
+    ≡ dispatch_of w earlier m fetch
 unfolding dispatch_from dispatch_of
 dispatch_same w earlier m fetch widths =
     rw (
-      back_take (depth w) 1 earlier (omega arith) (omega arith),
-      back_take (depth w) w.dispatch earlier widths.dispatch.0 (omega (arith, widths.dispatch.1)),
-      back_take (depth w) w.ruu earlier (omega (arith, widths.ruu.0)) (omega arith),
+      row_seen (λ r. r.dispatch + 1) (depth w) w.dispatch earlier widths.dispatch.0 (omega (arith, widths.dispatch.1)),
+      row_seen (λ r. r.retirement) (depth w) w.ruu earlier (omega (arith, widths.ruu.0)) (omega arith),
       back_take w.lsq w.lsq (memory_ones earlier) (omega (arith, widths.lsq.0)) (omega arith),
     ) refl
 
 pub retirement_same :
     (w : Widths) (earlier : List Timed) (completion : ℕ) → AreWidths w
-    → retirement_of w (take (depth w) earlier) completion ≡ retirement_of w earlier completion
-unfolding retirement_of
+    → retirement_from w (last_of earlier) (take (depth w) (map row_of earlier)) completion ≡ retirement_of w earlier completion
+unfolding retirement_from retirement_of
 retirement_same w earlier completion widths =
-    rw (
-      back_take (depth w) 1 earlier (omega arith) (omega arith),
-      back_take (depth w) w.retire earlier widths.retire.0 (omega (arith, widths.retire.1)),
-    ) refl
-
-pub last_same : (w : Widths) (earlier : List Timed) → last_of (take (depth w) earlier) ≡ last_of earlier
-last_same w earlier = rw (back_take (depth w) 1 earlier (omega arith) (omega arith)) refl
+    rw (row_seen (λ r. r.retirement + 1) (depth w) w.retire earlier widths.retire.0 (omega (arith, widths.retire.1))) refl
 
 -- what is retired by a cycle has completed by it, and so has all before
 all_done : (earlier : List Timed) (d : ℕ) → AreInOrder earlier → last_of earlier ≤ d → Each (λ x. x.completion ≤ d) earlier
@@ -231,12 +239,12 @@ issue_same w earlier slots start class ready t widths timed has late is =
 pub timed_is :
     (w : Widths) (earlier : List Timed) (f : Flight) (m : Marked) (fetch dispatch ready issue completion retirement : ℕ)
     → AreWidths w → IsKept w earlier f → IsRegister m.first → IsRegister m.second
-    → fetch ≡ fetch_of w f.rows.items m
-    → dispatch ≡ dispatch_from w f.rows.items f.accesses.items m fetch
+    → fetch ≡ fetch_from w f.next f.rows.items m
+    → dispatch ≡ dispatch_from w f.dispatched f.retired f.rows.items f.accesses.items m fetch
     → ready ≡ ready_from f m dispatch
     → IsFirst (has_room w f.slots.items f.start m.class) ready issue
     → completion ≡ issue + m.latency
-    → retirement ≡ retirement_of w f.rows.items completion
+    → retirement ≡ retirement_from w f.retired f.rows.items completion
     → record {
       mark = m;
       fetch = fetch;
@@ -247,13 +255,12 @@ pub timed_is :
     } ≡ timed_of w earlier m
 unfolding timed_of
 timed_is w earlier f m fetch dispatch ready issue completion retirement widths kept first second fetched dispatches readies issues completes retires =
-    let rows : f.rows.items ≡ take (depth w) earlier = ap (λ b. b.items) kept.rows in
+    let rows : f.rows.items ≡ take (depth w) (map row_of earlier) = ap (λ b. b.items) kept.rows in
     let accessed : f.accesses.items ≡ take w.lsq (memory_ones earlier) = ap (λ b. b.items) kept.accesses in
     let one : fetch_of w earlier m ≡ fetch =
-    sym (fetched ∙ ap (λ xs. fetch_of w xs m) rows ∙ fetch_same w earlier m widths) in
+    sym (rw (kept.next, rows) at fetched ∙ fetch_same w earlier m widths) in
     let two : dispatch_of w earlier m fetch ≡ dispatch =
-    sym (dispatches ∙ ap (λ xs. dispatch_from w xs f.accesses.items m fetch) rows
-    ∙ ap (λ xs. dispatch_from w (take (depth w) earlier) xs m fetch) accessed ∙ dispatch_same w earlier m fetch widths) in
+    sym (rw (kept.dispatched, kept.retired, rows, accessed) at dispatches ∙ dispatch_same w earlier m fetch widths) in
     let three : ready_of earlier m dispatch ≡ ready =
     sym (readies ∙ subst (λ d. ready_from f m d ≡ ready_of earlier m d) two (ready_same w earlier f m fetch widths kept first second)) in
     let waits : IsDispatch earlier dispatch ready = subst (λ r. IsDispatch earlier dispatch r) three (ready_is earlier m dispatch kept.timed) in
@@ -261,5 +268,5 @@ timed_is w earlier f m fetch dispatch ready issue completion retirement widths k
     let four : issue_of w earlier m.class ready ≡ issue =
     issue_same w earlier f.slots.items f.start m.class ready issue widths kept.timed kept.slots (omega (arith, waits.after, before)) issues in
     let five : retirement_of w earlier (issue + m.latency) ≡ retirement =
-    sym (retires ∙ ap (λ k. retirement_of w f.rows.items k) completes ∙ ap (λ xs. retirement_of w xs (issue + m.latency)) rows ∙ retirement_same w earlier (issue + m.latency) widths) in
+    sym (rw (kept.retired, rows, completes) at retires ∙ retirement_same w earlier (issue + m.latency) widths) in
     rw (one, two, three, four, five, completes) refl

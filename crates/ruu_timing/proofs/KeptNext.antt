@@ -1,5 +1,5 @@
 -- One more instruction in all parts of what is kept.
-use Rattle.std.proofs.Common.{◌≡◌, ◌+◌, ◌-◌, ◌*◌, ◌%◌, ◌^◌, ◌<◌, ◌≤◌, ◌==◌, ◌&&◌, ℕ, zero, suc, Bool, true, false, cond, if◌then◌else◌, List, [], ◌∷◌, length, take, get_or, set, max, Option, Some, None, refl, sym, ◌∙◌, ap, arith, inl, inr}
+use Rattle.std.proofs.Common.{◌≡◌, ◌+◌, ◌-◌, ◌*◌, ◌%◌, ◌^◌, ◌<◌, ◌≤◌, ◌==◌, ◌&&◌, ℕ, zero, suc, Bool, true, false, cond, if◌then◌else◌, List, [], ◌∷◌, length, map, take, get_or, set, max, Option, Some, None, refl, sym, ◌∙◌, ap, arith, inl, inr}
 use Rattle.std.specs.List.{find}
 use Rattle.std.specs.Option.{IfSome}
 use Rattle.std.proofs.lemmas.Bool.{cases_eq, eq-eqb, ne_eqb}
@@ -16,29 +16,30 @@ use Rattle.ruu_timing.specs.Class.{is_store}
 use Rattle.rv_isa.specs.declared.roles.Class.{Class}
 use Rattle.ruu_timing.specs.declared.issues.Slot.{Slot}
 use Rattle.ruu_timing.specs.Issues.{place_of, slot_at, one_more, dispatched, issued_in}
-use Rattle.ruu_timing.specs.Kept.{completed_by, latest_store, latest_with, HasWritten, HasStored, depth, span, IsFlight, IsKept, IsNoted}
+use Rattle.ruu_timing.specs.Kept.{row_of, IsSmallRow, completed_by, latest_store, latest_with, HasWritten, HasStored, depth, span, IsFlight, IsKept, IsNoted}
 use Rattle.ruu_timing.specs.Rows.{Each, IsWithin, AreTimed, last_of}
-use Rattle.ruu_timing.specs.Times.{time_of, memory_ones, accesses, writes, stores_to, is_given, stored, timed_of, fetch_of, dispatch_of, ready_of, issue_of, retirement_of}
-use Rattle.ruu_timing.proofs.Bounds.{retired, retired_near, small, last_small, each_filter, each_find}
+use Rattle.ruu_timing.specs.Times.{back, next_fetch, time_of, memory_ones, accesses, writes, stores_to, is_given, stored, timed_of, fetch_of, dispatch_of, ready_of, issue_of, retirement_of}
+use Rattle.ruu_timing.proofs.Bounds.{retired, retired_near, small, last_small, small_back, each_filter, each_find}
 use Rattle.ruu_timing.proofs.IssueTable.{IsNext, issued_kept}
-use Rattle.ruu_timing.proofs.KeptLaws.{last_same, unit_waits}
-use Rattle.ruu_timing.proofs.Nexts.{IsDispatch, dispatched_before, ready_is, issue_is, written_le, next_times, next_timed}
+use Rattle.ruu_timing.proofs.KeptLaws.{unit_waits}
+use Rattle.ruu_timing.proofs.Nexts.{IsDispatch, dispatched_before, ready_is, issue_is, written_le, next_fetch_le, next_times, next_timed}
 
 take_cons : {X : Type 0} (n : ℕ) (x : X) (xs : List X) → take n (x ∷ take n xs) ≡ take n (x ∷ xs)
 take_cons zero x xs = refl
 take_cons (suc n) x xs = ap (λ ys. x ∷ ys) (take-take n (suc n) xs (omega arith))
 
-put_first : (n : ℕ) (x : Timed) (xs : List Timed) (b : Buffer Timed) → b ≡ buffer (take n xs) n
+put_first :
+    {X : Type 0} (n : ℕ) (x : X) (xs : List X) (b : Buffer X) → b ≡ buffer (take n xs) n
     → buffer (take b.capacity (x ∷ b.items)) b.capacity ≡ buffer (take n (x ∷ xs)) n
 put_first n x xs b e = rw (e, take_cons n x xs) refl
 
 rows_next :
-    (w : Widths) (earlier : List Timed) (f g : Flight) (x : Timed) → IsKept w earlier f → IsNoted f g x
-    → g.rows ≡ buffer (take (depth w) (x ∷ earlier)) (depth w)
-rows_next w earlier f g x kept noted = noted.rows ∙ put_first (depth w) x earlier f.rows kept.rows
+    (w : Widths) (earlier : List Timed) (f g : Flight) (x : Timed) → IsKept w earlier f → IsNoted w f g x
+    → g.rows ≡ buffer (take (depth w) (map row_of (x ∷ earlier))) (depth w)
+rows_next w earlier f g x kept noted = noted.rows ∙ put_first (depth w) (row_of x) (map row_of earlier) f.rows kept.rows
 
 accesses_next :
-    (w : Widths) (earlier : List Timed) (f g : Flight) (x : Timed) → IsKept w earlier f → IsNoted f g x
+    (w : Widths) (earlier : List Timed) (f g : Flight) (x : Timed) → IsKept w earlier f → IsNoted w f g x
     → g.accesses ≡ buffer (take w.lsq (memory_ones (x ∷ earlier))) w.lsq
 accesses_next w earlier f g x kept noted = noted.accesses ∙ go (accesses_memory x.mark.class)
   where
@@ -142,7 +143,7 @@ slots_size slots start class t = length-set slots (place_of slots t) (one_more c
 
 pub kept_next :
     (w : Widths) (earlier : List Timed) (m : Marked) (f g : Flight) → AreWidths w → IsMarked m → length earlier < 110000
-    → IsKept w earlier f → IsNoted f g (timed_of w earlier m)
+    → IsKept w earlier f → IsNoted w f g (timed_of w earlier m)
     → IsKept w (timed_of w earlier m ∷ earlier) g
 kept_next w earlier m f g widths marked few kept noted =
     let x : Timed = timed_of w earlier m in
@@ -151,6 +152,9 @@ kept_next w earlier m f g widths marked few kept noted =
     record {
       timed = next_timed w earlier m widths marked kept.timed few;
       rows = rows_next w earlier f g x kept noted;
+      next = noted.next;
+      dispatched = noted.dispatched;
+      retired = noted.retired;
       accesses = accesses_next w earlier f g x kept noted;
       registers = rw noted.registers (written_next earlier f.registers.items x kept.registers_length kept.registers);
       registers_length = rw noted.registers (registers_size f.registers.items x.mark.dest x.completion kept.registers_length);
@@ -171,10 +175,29 @@ each_got : (P : ℕ → Type 0) (xs : List ℕ) → ((i : ℕ) → i < length xs
 each_got P [] each = tt
 each_got P (x ∷ xs) each = (each 0 (omega arith), each_got P xs (λ i below. each (suc i) (omega arith)))
 
+small_rows : (earlier : List Timed) → Each (IsWithin (2 ^ 32)) earlier → Each IsSmallRow (map row_of earlier)
+small_rows [] each = tt
+small_rows (x ∷ xs) each = (
+  record {
+    fetch = omega (arith, each.0.fetch);
+    dispatch = omega (arith, each.0.dispatch);
+    retirement = each.0.retirement;
+  },
+  small_rows xs each.1,
+)
+
+next_small : (w : Widths) → AreWidths w → (found : Option Timed) → IfSome found (IsWithin (2 ^ 32)) → time_of (next_fetch w) found ≤ 2 ^ 33
+next_small w widths None within = omega arith
+next_small w widths (Some x) within = omega (arith, next_fetch_le w (2 ^ 32) widths x within)
+
+dispatch_small : (found : Option Timed) → IfSome found (IsWithin (2 ^ 32)) → time_of (λ x. x.dispatch) found ≤ 2 ^ 32
+dispatch_small None within = omega arith
+dispatch_small (Some x) within = omega (arith, within.dispatch)
+
 -- whatever instructions went before, the parts are ready for the next one
-pub kept_flight : (w : Widths) (earlier : List Timed) (f : Flight) → IsKept w earlier f → IsFlight w f
-kept_flight w earlier f kept =
-    let rows : f.rows.items ≡ take (depth w) earlier = ap (λ b. b.items) kept.rows in
+pub kept_flight : (w : Widths) (earlier : List Timed) (f : Flight) → AreWidths w → IsKept w earlier f → IsFlight w f
+kept_flight w earlier f widths kept =
+    let rows : f.rows.items ≡ take (depth w) (map row_of earlier) = ap (λ b. b.items) kept.rows in
     let accessed : f.accesses.items ≡ take w.lsq (memory_ones earlier) = ap (λ b. b.items) kept.accesses in
     let each : Each (IsWithin (2 ^ 32)) earlier = small earlier kept.timed in
     record {
@@ -184,13 +207,16 @@ kept_flight w earlier f kept =
       stores = kept.stores_length;
       power = kept.power;
       wide = kept.wide;
-      small = rw rows (each_take (IsWithin (2 ^ 32)) (depth w) earlier each);
+      small = rw rows (each_take IsSmallRow (depth w) (map row_of earlier) (small_rows earlier each));
       small_accesses = rw accessed (each_take (IsWithin (2 ^ 32)) w.lsq (memory_ones earlier)
           (each_filter (IsWithin (2 ^ 32)) (λ x. accesses x) earlier each));
       small_registers = each_got (λ c. c ≤ 2 ^ 32) f.registers.items (λ i below.
           rw (kept.registers i (omega (arith, kept.registers_length)))
           (omega (arith, written_le earlier (Some i) kept.timed, last_small earlier kept.timed)));
-      before = rw (rows, last_same w earlier) kept.slots.before;
+      next = rw kept.next (next_small w widths (back earlier 1) (small_back earlier 0 kept.timed));
+      dispatched = rw kept.dispatched (dispatch_small (back earlier 1) (small_back earlier 0 kept.timed));
+      retired = rw kept.retired (last_small earlier kept.timed);
+      before = rw kept.retired kept.slots.before;
       sevens = kept.slots.sevens;
       start = kept.start;
     }

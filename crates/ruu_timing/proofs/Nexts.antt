@@ -34,7 +34,7 @@ back_le time n earlier k le timed =
     time_le time (last_of earlier) n le (back earlier k)
     (each_get (IsWithin (last_of earlier)) earlier (k - 1) timed.each)
 
-next_fetch_le :
+pub next_fetch_le :
     (w : Widths) (last : ℕ) → AreWidths w → (x : Timed) → IsWithin last x → next_fetch w x ≤ last + 64
 next_fetch_le w last widths x within =
     let penalty : w.penalty ≤ 64 = widths.penalty.1 in

@@ -14,9 +14,8 @@ use Rattle.ruu_timing.proofs.Slots.{issue_is_least, first_slot_is}
 use Rattle.ruu_timing.specs.Times.{back, time_of, issue_of, timed_of, timed_after, times, cycles}
 use Rattle.ruu_timing.specs.declared.flight.Flight.{Flight}
 use Rattle.ruu_timing.specs.Kept.{IsKept}
-use Rattle.ruu_timing.specs.Rows.{Each, AreTimed, last_of}
+use Rattle.ruu_timing.specs.Rows.{Each, AreTimed}
 use Rattle.ruu_timing.proofs.Bounds.{retired, retired_in_order, retired_soon, retired_wide}
-use Rattle.ruu_timing.proofs.KeptLaws.{last_same}
 use Rattle.ruu_timing.proofs.Nexts.{next_timed, times_behind, length_after}
 
 pub times_more :
@@ -117,10 +116,6 @@ last_before w ms skip within =
     let place : length ms - skip + 1 - 1 ≡ length (drop skip ms) + 0 = omega (arith, length-drop skip ms) in
     rw (place, whole, behind w (times w (take skip ms)) (drop skip ms) 0) refl
 
--- the last retirement of what is kept
-pub kept_last : (w : Widths) (earlier : List Timed) (f : Flight) → IsKept w earlier f → last_of f.rows.items ≡ retired_back earlier 1
-kept_last w earlier f kept = ap (λ b. last_of b.items) kept.rows ∙ last_same w earlier
-
 pub kept_whole :
     (w : Widths) (ms : List Marked) (n : ℕ) (f : Flight) → length ms ≤ n → IsKept w (times w (take n ms)) f → IsKept w (times w ms) f
 kept_whole w ms n f le kept = subst (λ l. IsKept w (times w l) f) (take_all n ms le) kept
@@ -137,17 +132,15 @@ pub record AreCycles (w : Widths) (ms : List Marked) (skip before last : ℕ) : 
   pub most : length ms ≤ skip + 10000 → last - before < 2 ^ 26
 
 pub cycles_between :
-    (w : Widths) (ms : List Marked) (skip n : ℕ) (f g : Flight) (before last : ℕ) → skip < length ms → length ms ≤ n
-    → IsKept w (times w (take skip ms)) f → IsKept w (times w (take n ms)) g
-    → before ≡ last_of f.rows.items → last ≡ last_of g.rows.items → AreCycles w ms skip before last
+    (w : Widths) (ms : List Marked) (skip n : ℕ) (f g : Flight) → skip < length ms → length ms ≤ n
+    → IsKept w (times w (take skip ms)) f → IsKept w (times w (take n ms)) g → AreCycles w ms skip f.retired g.retired
 unfolding cycles
-cycles_between w ms skip n f g before last within end first second was is =
+cycles_between w ms skip n f g within end first second =
     let rows : List Timed = times w ms in
     let k : ℕ = length ms - skip + 1 in
     let whole : IsKept w rows g = kept_whole w ms n g end second in
-    let early : before ≡ retired_back rows k =
-    was ∙ kept_last w (times w (take skip ms)) f first ∙ last_before w ms skip within in
-    let late : last ≡ retired_back rows 1 = is ∙ kept_last w rows g whole in
+    let early : f.retired ≡ retired_back rows k = first.retired ∙ last_before w ms skip within in
+    let late : g.retired ≡ retired_back rows 1 = whole.retired in
     record {
       order = rw (early, late) (total_known rows k whole.timed (omega arith));
       cycles = rw (early, late) refl;

@@ -7,12 +7,13 @@ ghost use Rattle.ruu_timing.specs.declared.timed.Timed.{Timed as TimedValue};
 ghost use Rattle.ruu_timing.specs.Issues.{has_room};
 ghost use Rattle.ruu_timing.specs.Kept.{IsFlight, IsKept, IsNoted, IsRegister, latest_with, ready_from, stored_after};
 ghost use Rattle.ruu_timing.specs.Laws.{IsFirst};
-ghost use Rattle.ruu_timing.specs.Rows.{Each, IsWithin, last_of};
+ghost use Rattle.ruu_timing.specs.Rows.{Each, IsWithin};
 ghost use Rattle.ruu_timing.specs.Times.{timed_of, times};
 
 use crate::class::{accesses_memory, is_load, is_store};
 use crate::issues::{Slot, first_room, issue_in, next_start, table};
-use crate::latest::{dispatch_of, fetch_of, retirement_back, retirement_of, stored};
+use crate::latest::{dispatch_of, fetch_of, next_fetch, retirement_of, stored};
+use crate::row::Row;
 use crate::tables::{complete, complete_store, completed, latest_store};
 use crate::timed::Timed;
 use crate::trace::Trace;
@@ -26,7 +27,12 @@ use std::alloc::Global;
 #[derive(Debug, Drop)]
 pub(crate) struct Flight {
     /// The register update unit and the fetch queue, the latest first.
-    pub(crate) rows: HeapCircularBuffer<Timed>,
+    pub(crate) rows: HeapCircularBuffer<Row>,
+    /// When the next instruction may be fetched, as far as the one before it goes.
+    pub(crate) next: u64,
+    /// When the one before it was dispatched and retired.
+    pub(crate) dispatched: u64,
+    pub(crate) retired: u64,
     /// The load and store queue, the latest first.
     pub(crate) accesses: HeapCircularBuffer<Timed>,
     /// When the last writer of each register has completed.
@@ -99,8 +105,7 @@ impl Flight {
         ensures value { IsFirst (has_room w.now self.now.slots.items self.now.start class) ready result }
         ensures bound { result ≤ 2 ^ 37 }
     {
-        let last = retirement_back(&self.rows, 1);
-        first_room(w, &self.slots, self.start, class, ready, last)
+        first_room(w, &self.slots, self.start, class, ready, self.retired)
     }
 
     /// The times of an instruction that follows.
@@ -113,9 +118,10 @@ impl Flight {
         ensures room { has_room w.now self.now.slots.items self.now.start mark.class result.issue ≡ true }
         ensures mark { result.mark ≡ mark }
         ensures bound { result.issue ≤ 2 ^ 37 }
+        ensures times { (result.fetch ≤ 2 ^ 41) × (result.completion ≤ 2 ^ 41) × (result.retirement ≤ 2 ^ 41) }
     {
-        let fetch = fetch_of(w, &self.rows, &mark);
-        let dispatch = dispatch_of(w, &self.rows, &self.accesses, &mark, fetch);
+        let fetch = fetch_of(w, self.next, &self.rows, &mark);
+        let dispatch = dispatch_of(w, self, &mark, fetch);
         let issue = self.issue_of(w, mark.class, self.ready_of(w, &mark, dispatch));
         let completion = issue + u64::from(mark.latency);
         Timed {
@@ -124,7 +130,7 @@ impl Flight {
             dispatch,
             issue,
             completion,
-            retirement: retirement_of(w, &self.rows, completion),
+            retirement: retirement_of(w, self.retired, &self.rows, completion),
         }
     }
 
@@ -133,7 +139,8 @@ impl Flight {
         requires flight { IsFlight w.now self.old }
         requires room { has_room w.now self.old.slots.items self.old.start timed.mark.class timed.issue ≡ true }
         requires bound { timed.issue ≤ 2 ^ 37 }
-        ensures { IsNoted self.old self.new timed }
+        requires times { (timed.fetch ≤ 2 ^ 41) × (timed.completion ≤ 2 ^ 41) × (timed.retirement ≤ 2 ^ 41) }
+        ensures { IsNoted w.now self.old self.new timed }
     {
         issue_in(
             w,
@@ -145,7 +152,14 @@ impl Flight {
         complete(&mut self.registers, timed.mark.dest, timed.completion);
         note_store(&mut self.stores, &timed);
         note_access(&mut self.accesses, timed);
-        self.rows.push_front(timed);
+        self.rows.push_front(Row {
+            fetch: timed.fetch,
+            dispatch: timed.dispatch,
+            retirement: timed.retirement,
+        });
+        self.next = next_fetch(w, &timed);
+        self.dispatched = timed.dispatch;
+        self.retired = timed.retirement;
     }
 
     /// Times one more instruction.
@@ -174,22 +188,17 @@ impl Flight {
         }
     }
 
-    /// When the last instruction was retired.
-    pub(crate) fn retirement(&self) -> u64
-        requires { Each (IsWithin (2 ^ 32)) self.now.rows.items }
-        ensures { result ≡ last_of self.now.rows.items }
-    {
-        retirement_back(&self.rows, 1)
-    }
-
     /// Forgets the trace.
     pub(crate) fn restart(&mut self, w: &Widths)
         requires { IsFlight w.now self.old }
         ensures { IsKept w.now [] self.new }
     {
-        let start = self.start + self.retirement();
+        let start = self.start + self.retired;
         self.start = next_start(&mut self.slots, start);
         self.rows.clear();
+        self.next = 0;
+        self.dispatched = 0;
+        self.retired = 0;
         self.accesses.clear();
         self.registers.fill(0);
         self.stores.fill(0);
@@ -202,6 +211,9 @@ impl Flight {
         let depth = w.ruu.max(32) as usize;
         Ok(Flight {
             rows: HeapCircularBuffer::with_capacity(alloc, depth)?,
+            next: 0,
+            dispatched: 0,
+            retired: 0,
             accesses: HeapCircularBuffer::with_capacity(alloc, w.lsq as usize)?,
             registers: vec![in alloc; 0; 256]?,
             stores: vec![in alloc; 0; 256]?,

@@ -155,13 +155,13 @@ pub(crate) fn table(alloc: Global, ruu: u32) -> Result<Vec<Slot>, NoMemory>
 
 /// The first cycle of a further trace: behind all that the table knows of, so that the table need
 /// not be emptied, as long as there are cycles.
-pub(crate) fn next_start(slots: &mut [Slot], start: u64) -> u64
-    requires before { Each (λ slot. slot.cycle ≤ start) slots.old }
-    requires sevens { Each (λ slot. length slot.alike ≡ 7) slots.old }
+pub(crate) fn next_start(slots: &mut Vec<Slot>, start: u64) -> u64
+    requires before { Each (λ slot. slot.cycle ≤ start) slots.old.items }
+    requires sevens { Each (λ slot. length slot.alike ≡ 7) slots.old.items }
     ensures start { result ≤ 2 ^ 41 }
-    ensures before { Each (λ slot. slot.cycle ≤ result) slots.new }
-    ensures sevens { Each (λ slot. length slot.alike ≡ 7) slots.new }
-    ensures size { length slots.new ≡ length slots.old }
+    ensures before { Each (λ slot. slot.cycle ≤ result) slots.new.items }
+    ensures sevens { Each (λ slot. length slot.alike ≡ 7) slots.new.items }
+    ensures size { length slots.new.items ≡ length slots.old.items }
 {
     if start <= 1 << 41 {
         return start;

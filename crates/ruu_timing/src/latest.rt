@@ -3,45 +3,36 @@ ghost use Rattle.std.specs.Prelude.{◌≡◌, ◌+◌, ◌^◌, ◌<◌, ◌≤
 ghost use Rattle.std.specs.List.{find};
 ghost use Rattle.hierarchy.specs.Widths.{AreWidths};
 ghost use Rattle.hierarchy.specs.Marked.{IsMarked};
-ghost use Rattle.ruu_timing.specs.Kept.{dispatch_from};
+ghost use Rattle.ruu_timing.specs.Kept.{IsFlight, IsSmallRow, row_back, fetch_from, dispatch_from, retirement_from};
 ghost use Rattle.ruu_timing.specs.Rows.{Each, IsWithin};
-ghost use Rattle.ruu_timing.specs.Times.{back, time_of, next_fetch, fetch_of, stores_to, stored, retirement_of};
+ghost use Rattle.ruu_timing.specs.Times.{back, time_of, next_fetch, stores_to, stored};
 
 use crate::class::{accesses_memory, is_ecall};
 use crate::earlier::stores_to;
+use crate::flight::Flight;
+use crate::row::Row;
 use crate::timed::Timed;
 use circular_buffer::HeapCircularBuffer;
 use hierarchy::{Marked, Widths};
 
-/// The instruction that is `k` before the next.
-fn back(rows: &HeapCircularBuffer<Timed>, k: usize) -> Option<&Timed>
+/// The row that is `k` before the next.
+fn row_back(rows: &HeapCircularBuffer<Row>, k: usize) -> Option<&Row>
     requires some { 1 ≤ k }
-    requires small { Each (IsWithin (2 ^ 32)) rows.now.items }
-    ensures value { option_copied result ≡ back rows.now.items k }
-    ensures within { IfSome result (λ x. IsWithin (2 ^ 32) x.now) }
+    requires small { Each IsSmallRow rows.now.items }
+    ensures value { option_copied result ≡ row_back rows.now.items k }
+    ensures within { IfSome result (λ r. IsSmallRow r.now) }
 {
     rows.get(k - 1)
 }
 
-fn dispatch_back(rows: &HeapCircularBuffer<Timed>, k: usize) -> u64
-    requires some { 1 ≤ k }
-    requires small { Each (IsWithin (2 ^ 32)) rows.now.items }
-    ensures value { result ≡ time_of (λ x. x.dispatch) (back rows.now.items k) }
+/// When the load or store is retired whose place a further one takes.
+fn access_retirement(accesses: &HeapCircularBuffer<Timed>, lsq: usize) -> u64
+    requires some { 1 ≤ lsq }
+    requires small { Each (IsWithin (2 ^ 32)) accesses.now.items }
+    ensures value { result ≡ time_of (λ x. x.retirement) (back accesses.now.items lsq) }
     ensures bound { result ≤ 2 ^ 33 }
 {
-    match back(rows, k) {
-        Some(x) => x.dispatch,
-        None => 0,
-    }
-}
-
-pub(crate) fn retirement_back(rows: &HeapCircularBuffer<Timed>, k: usize) -> u64
-    requires some { 1 ≤ k }
-    requires small { Each (IsWithin (2 ^ 32)) rows.now.items }
-    ensures value { result ≡ time_of (λ x. x.retirement) (back rows.now.items k) }
-    ensures bound { result ≤ 2 ^ 32 }
-{
-    match back(rows, k) {
+    match accesses.get(lsq - 1) {
         Some(x) => x.retirement,
         None => 0,
     }
@@ -50,9 +41,9 @@ pub(crate) fn retirement_back(rows: &HeapCircularBuffer<Timed>, k: usize) -> u64
 /// When the instruction behind this may be fetched.
 pub(crate) fn next_fetch(w: &Widths, x: &Timed) -> u64
     requires widths { AreWidths w.now }
-    requires within { IsWithin (2 ^ 32) x.now }
+    requires small { (x.now.fetch ≤ 2 ^ 41) × (x.now.completion ≤ 2 ^ 41) × (x.now.retirement ≤ 2 ^ 41) }
     ensures value { result ≡ next_fetch w.now x.now }
-    ensures bound { result ≤ 2 ^ 33 }
+    ensures bound { IsWithin (2 ^ 32) x.now → result ≤ 2 ^ 33 }
 {
     let after_fetch = if x.mark.transferred {
         x.fetch + 1
@@ -72,71 +63,76 @@ pub(crate) fn next_fetch(w: &Widths, x: &Timed) -> u64
     after_fetch.max(after_wrong.max(after_call))
 }
 
-#[tactic(auto, unfolding(crate::specs::Times::fetch_of))]
-pub(crate) fn fetch_of(w: &Widths, rows: &HeapCircularBuffer<Timed>, mark: &Marked) -> u64
+#[tactic(auto, unfolding(crate::specs::Kept::fetch_from))]
+pub(crate) fn fetch_of(w: &Widths, next: u64, rows: &HeapCircularBuffer<Row>, mark: &Marked) -> u64
     requires widths { AreWidths w.now }
     requires mark { IsMarked mark.now }
-    requires small { Each (IsWithin (2 ^ 32)) rows.now.items }
-    ensures value { result ≡ fetch_of w.now rows.now.items mark.now }
+    requires next { next ≤ 2 ^ 33 }
+    requires small { Each IsSmallRow rows.now.items }
+    ensures value { result ≡ fetch_from w.now next rows.now.items mark.now }
     ensures bound { result ≤ 2 ^ 34 }
 {
-    let next = match back(rows, 1) {
-        Some(x) => next_fetch(w, x),
+    let room = match row_back(rows, w.queue as usize) {
+        Some(row) => row.dispatch,
         None => 0,
     };
-    let room = dispatch_back(rows, w.queue as usize);
-    let width = match back(rows, w.fetch as usize) {
-        Some(x) => x.fetch + 1,
+    let width = match row_back(rows, w.fetch as usize) {
+        Some(row) => row.fetch + 1,
         None => 0,
     };
     next.max(room.max(width)) + u64::from(mark.stall)
 }
 
 #[tactic(auto, unfolding(crate::specs::Kept::dispatch_from))]
-pub(crate) fn dispatch_of(
-    w: &Widths,
-    rows: &HeapCircularBuffer<Timed>,
-    accesses: &HeapCircularBuffer<Timed>,
-    mark: &Marked,
-    fetch: u64,
-) -> u64
+pub(crate) fn dispatch_of(w: &Widths, flight: &Flight, mark: &Marked, fetch: u64) -> u64
     requires widths { AreWidths w.now }
+    requires flight { IsFlight w.now flight.now }
     requires fetch { fetch ≤ 2 ^ 34 }
-    requires small { Each (IsWithin (2 ^ 32)) rows.now.items }
-    requires small_accesses { Each (IsWithin (2 ^ 32)) accesses.now.items }
-    ensures value { result ≡ dispatch_from w.now rows.now.items accesses.now.items mark.now fetch }
+    ensures value { result ≡ dispatch_from w.now flight.now.dispatched flight.now.retired flight.now.rows.items
+        flight.now.accesses.items mark.now fetch }
     ensures bound { result ≤ 2 ^ 35 }
 {
-    let width = match back(rows, w.dispatch as usize) {
-        Some(x) => x.dispatch + 1,
+    let width = match row_back(&flight.rows, w.dispatch as usize) {
+        Some(row) => row.dispatch + 1,
         None => 0,
     };
-    let in_order = (fetch + 1).max(dispatch_back(rows, 1).max(width));
+    let unit = match row_back(&flight.rows, w.ruu as usize) {
+        Some(row) => row.retirement,
+        None => 0,
+    };
     let memory = if accesses_memory(mark.class) {
-        retirement_back(accesses, w.lsq as usize)
+        access_retirement(&flight.accesses, w.lsq as usize)
     } else {
         0
     };
     let call = if is_ecall(mark.class) {
-        retirement_back(rows, 1)
+        flight.retired
     } else {
         0
     };
-    in_order.max(retirement_back(rows, w.ruu as usize).max(memory.max(call)))
+    let in_order = (fetch + 1).max(flight.dispatched.max(width));
+    in_order.max(unit.max(memory.max(call)))
 }
 
-#[tactic(auto, unfolding(crate::specs::Times::retirement_of))]
-pub(crate) fn retirement_of(w: &Widths, rows: &HeapCircularBuffer<Timed>, completion: u64) -> u64
+#[tactic(auto, unfolding(crate::specs::Kept::retirement_from))]
+pub(crate) fn retirement_of(
+    w: &Widths,
+    retired: u64,
+    rows: &HeapCircularBuffer<Row>,
+    completion: u64,
+) -> u64
     requires widths { AreWidths w.now }
     requires completion { completion ≤ 2 ^ 40 }
-    requires small { Each (IsWithin (2 ^ 32)) rows.now.items }
-    ensures { result ≡ retirement_of w.now rows.now.items completion }
+    requires retired { retired ≤ 2 ^ 32 }
+    requires small { Each IsSmallRow rows.now.items }
+    ensures value { result ≡ retirement_from w.now retired rows.now.items completion }
+    ensures bound { result ≤ 2 ^ 41 }
 {
-    let width = match back(rows, w.retire as usize) {
-        Some(x) => x.retirement + 1,
+    let width = match row_back(rows, w.retire as usize) {
+        Some(row) => row.retirement + 1,
         None => 0,
     };
-    (completion + 1).max(retirement_back(rows, 1).max(width))
+    (completion + 1).max(retired.max(width))
 }
 
 /// The last of these that stores to a word.

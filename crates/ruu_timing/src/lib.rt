@@ -9,6 +9,7 @@ mod issues;
 mod latest;
 mod laws;
 mod plain;
+mod row;
 mod rows;
 mod ruu;
 mod scalar;

@@ -52,8 +52,8 @@ impl Ruu {
     {
         self.flight.restart(&self.widths);
         self.flight.run(&self.widths, trace, 0, skip);
-        let before = self.flight.retirement();
+        let before = self.flight.retired;
         self.flight.run(&self.widths, trace, skip, trace.len());
-        self.flight.retirement() - before
+        self.flight.retired - before
     }
 }

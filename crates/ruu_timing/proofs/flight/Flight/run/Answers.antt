@@ -9,7 +9,7 @@ use Rattle.ruu_timing.proofs.flight.Flight.run.Goals as goal
 
 pub push-requires-clause-flight : goal.push-requires-clause-flight
 push-requires-clause-flight g c =
-    kept_flight c.args.w.now (times c.args.w.now (take c.loop-i.i (g.T.Trace.items c.args.trace.now))) c.loop-i.self c.loop-i.invariant
+    kept_flight c.args.w.now (times c.args.w.now (take c.loop-i.i (g.T.Trace.items c.args.trace.now))) c.loop-i.self c.requires.widths c.loop-i.invariant
 
 pub loop-i-preserved : goal.loop-i-preserved
 loop-i-preserved g c =

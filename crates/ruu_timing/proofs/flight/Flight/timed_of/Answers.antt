@@ -8,4 +8,4 @@ returns-clause-value c = λ earlier kept.
     c.issue_of-issue.result (c.issue_of-issue.result + c.from.result) c.retirement_of.result c.requires.widths kept
     c.ready_of.ensures.first c.ready_of.ensures.second c.fetch_of-fetch.ensures.value c.dispatch_of-dispatch.ensures.value
     c.ready_of.ensures.value c.issue_of-issue.ensures.value (ap (λ n. c.issue_of-issue.result + n) c.from.ensures)
-    c.retirement_of.ensures
+    c.retirement_of.ensures.value
