@@ -1,0 +1,10 @@
+pub mod Eachs
+pub mod Ranks
+pub mod LastUses
+pub mod Referring
+pub mod Sorting
+pub mod Rows
+pub mod Judgements
+pub mod Shifts
+pub mod LastPlaces
+pub mod FirstFaults

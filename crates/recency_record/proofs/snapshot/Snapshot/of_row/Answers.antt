@@ -1,0 +1,47 @@
+use Rattle.std.proofs.Common.{◌≡◌, ◌<◌, ◌+◌, ◌-◌, ◌^◌, ℕ, List, arith, length, get_or, take, drop, sum, ◌∙◌, refl, sym, take_all, vec_len}
+use Rattle.lru_plain.specs.Shape.{sets_of}
+use Rattle.recency_record.specs.Parts.{starts_from, parts}
+use Rattle.recency_record.specs.Faults.{dealt}
+use Rattle.recency_record.proofs.Rows.{row_parts, row_starts, row_count, counts_more, counts_short, dealt_length}
+use Rattle.recency_record.proofs.Judgements.{recency_of_sound}
+use Rattle.std.proofs.lemmas.List.Sums.{sum_by_more}
+use Rattle.recency_record.proofs.snapshot.Snapshot.of_row.Goals as goal
+
+pub overflow_add-start : goal.overflow_add-start
+overflow_add-start c =
+    let short : sum (take c.loop-count.count-index c.args.counts.now) + get_or c.args.counts.now c.loop-count.count-index 0 < 2 ^ 32 =
+    counts_short c.args.geometry c.args.counts.now c.loop-count.count-index c.sets.ensures.shape c.requires.sets (omega arith)
+    (λ k. omega (arith, c.type_inv.counts k)) in
+    omega (arith, short, c.loop-count.invariant.start, c.from.ensures)
+
+pub loop-count-preserved : goal.loop-count-preserved
+loop-count-preserved c =
+    let start : c.loop-count.start + c.from.result ≡ sum (take c.loop-count.count-index c.args.counts.now) + get_or c.args.counts.now c.loop-count.count-index 0 =
+    omega (arith, c.loop-count.invariant.start, c.from.ensures) in
+    record {
+      room = omega (arith, c.push_reserved-in-loop-count.ensures.capacity, c.loop-count.invariant.room);
+      len = omega (arith, c.push_reserved-in-loop-count.ensures.len, c.loop-count.invariant.len);
+      start = start ∙ sym (sum_by_more (λ x. x) c.args.counts.now c.loop-count.count-index 0 (omega arith));
+      starts = rw (c.push_reserved-in-loop-count.ensures.items, c.loop-count.invariant.starts, start)
+          (sym (counts_more c.args.counts.now c.loop-count.count-index (omega arith)));
+    }
+
+whole : (c : goal.In_ok-from_slice) → c.loop-count.starts.items ≡ starts_from 0 c.args.counts.now
+whole c =
+    rw (take_all c.loop-count.count-index c.args.counts.now (omega arith)) at c.loop-count.invariant.starts
+
+split : (c : goal.In_ok-from_slice) → parts c.loop-count.starts.items c.in_ok-from_slice.field-0.items ≡ dealt c.args.counts.now c.args.entries.now
+split c = row_parts c.args.counts.now c.loop-count.starts.items c.args.entries.now c.in_ok-from_slice.field-0.items (whole c) c.in_ok-from_slice.ensures.items
+
+pub invariant_of-result : goal.invariant_of-result
+invariant_of-result c = record {
+  recency = rw (split c)
+      (recency_of_sound c.args.geometry c.args.time (dealt c.args.counts.now c.args.entries.now) c.sets.ensures.shape
+      (dealt_length c.args.counts.now c.args.entries.now ∙ c.requires.sets) c.requires.sound);
+  starts = row_starts c.args.counts.now c.loop-count.starts.items c.args.entries.now c.in_ok-from_slice.field-0.items (whole c) c.in_ok-from_slice.ensures.items c.requires.entries;
+  count = row_count c.args.counts.now c.loop-count.starts.items c.args.entries.now c.in_ok-from_slice.field-0.items (whole c) c.in_ok-from_slice.ensures.items
+      ∙ rw c.requires.sets refl;
+}
+
+pub returns : goal.returns
+returns c = rw (split c) refl

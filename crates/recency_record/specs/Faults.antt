@@ -1,0 +1,59 @@
+-- Which rule of a record a list of entries breaks first.
+use Rattle.std.specs.Prelude.{◌≡◌, ℕ, ◌+◌, ◌-◌, ◌^◌, ◌==◌, nat_lt, nat_le, Bool, true, false, not, ◌&&◌, if◌then◌else◌, Option, Some, None, Result, Ok, Err, List, [], ◌∷◌, ◌++◌, length, take, drop, slice_get}
+use Rattle.std.specs.List.{list_any}
+use Rattle.std.specs.Option.{option_to_list}
+use Rattle.smarts_base.specs.Least.{or_else}
+use Rattle.lru_plain.specs.Shape.{Shape, home_of}
+use Rattle.recency_record.specs.declared.entry.Entry.{Entry}
+use Rattle.recency_record.specs.declared.fault.RecordFault.{RecordFault}
+use Rattle.recency_record.specs.declared.fault.RecordFault.TheVariants.{TooMany, WrongSet, Repeated, TimeRange, NotDescending}
+use Rattle.recency_record.specs.Recency.{Recency}
+
+-- there is such a block under this line, and it belongs to the set
+abbrev pub belongs : Shape → ℕ → ℕ → Bool
+belongs g set block = nat_lt block (2 ^ (32 - g.line_log)) && (home_of g block == set)
+
+-- the entry just before is no later
+abbrev pub is_no_later : Option Entry → Entry → Bool
+is_no_later None e = false
+is_no_later (Some before) e = nat_le before.time e.time
+
+-- the first rule that an entry breaks behind those before it in its set
+unfoldable pub entry_fault : Shape → ℕ → ℕ → List Entry → Entry → Option RecordFault
+entry_fault g time set before e =
+    if not (belongs g set e.block) then Some (WrongSet set (length before))
+    else if list_any (λ x. x.block == e.block) before then Some (Repeated set (length before))
+    else if not (nat_lt e.time time) then Some (TimeRange set (length before))
+    else if is_no_later (slice_get before (length before - 1)) e then Some (NotDescending set (length before))
+    else None
+
+-- the first that an entry of a set breaks, behind those before
+unfoldable pub entries_fault : Shape → ℕ → ℕ → List Entry → List Entry → Option RecordFault
+entries_fault g time set before [] = None
+entries_fault g time set before (e ∷ es) =
+    or_else (entry_fault g time set before e) (entries_fault g time set (before ++ e ∷ []) es)
+
+-- the first that a set breaks
+unfoldable pub set_fault : Shape → ℕ → ℕ → List Entry → Option RecordFault
+set_fault g time set es =
+    if nat_lt g.ways (length es) then Some (TooMany set 0) else entries_fault g time set [] es
+
+-- the first that the sets from this number on break
+unfoldable pub sets_fault : Shape → ℕ → ℕ → List (List Entry) → Option RecordFault
+sets_fault g time set [] = None
+sets_fault g time set (es ∷ rest) = or_else (set_fault g time set es) (sets_fault g time (set + 1) rest)
+
+-- entries dealt out to sets, so many to each in turn
+abbrev pub dealt : List ℕ → List Entry → List (List Entry)
+dealt [] es = []
+dealt (count ∷ counts) es = take count es ∷ dealt counts (drop count es)
+
+-- the value, where there is no fault
+abbrev pub unless : {A E : Type 0} → Option E → A → Result A E
+unless None value = Ok value
+unless (Some fault) value = Err fault
+
+-- the snapshot of these sets, or the first rule that they break
+abbrev pub judged : Shape → ℕ → List (List Entry) → Result Recency RecordFault
+judged g time sets =
+    unless (sets_fault g time 0 sets) (record { shape = g; time = time; sets = sets })

@@ -1,0 +1,7 @@
+pub mod Each
+pub mod Uses
+pub mod Recency
+pub mod Slots
+pub mod Faults
+pub mod Parts
+pub mod Views

@@ -1,0 +1,138 @@
+ghost use Rattle.std.specs.Prelude.{◌≡◌, ◌<◌, ◌≤◌, ◌+◌, length, slice_index_or, sum, IfOk, [], None};
+ghost use Rattle.lru_plain.specs.Shape.{sets_of};
+ghost use Rattle.smarts_base.specs.Outcome.{Answers};
+ghost use Rattle.recency_record.specs.Recency.{Recency, IsRecency};
+ghost use Rattle.recency_record.specs.Faults.{judged, dealt, sets_fault};
+
+use crate::entry::Entry;
+use crate::fault::RecordFault;
+use crate::judging::first_fault;
+use crate::lane::Lane;
+use lru_plain::Geometry;
+use smarts_base::{NoMemory, Refusal};
+use std::alloc::Global;
+use std::marker::Model;
+
+/// What a record told at one time. The entries of all sets stand in one row.
+#[derive(Debug, Drop)]
+pub struct Snapshot {
+    geometry: Geometry,
+    time: u64,
+    /// Where the entries of each set begin, and where those of the last end.
+    starts: Vec<u32>,
+    entries: Vec<Entry>,
+}
+
+impl Model for Snapshot {
+    ghost use Rattle.recency_record.specs.Recency.{Recency};
+
+    ghost Value = { Recency };
+
+    ghost use Rattle.recency_record.specs.Views.{recency_of_snapshot, IsSnapshot};
+
+    ghost view = { recency_of_snapshot };
+
+    ghost invariant = { IsSnapshot };
+}
+
+impl Snapshot {
+    /// The snapshot of these lists.
+    pub(crate) fn of_lanes(
+        alloc: Global,
+        geometry: Geometry,
+        time: u64,
+        lanes: &[Lane],
+    ) -> Result<Snapshot, NoMemory>
+        requires { let recency : Recency = record { shape = geometry; time = time; sets = lanes.now } in
+            IsRecency recency }
+        ensures { IfOk result (λ snapshot. snapshot ≡ record { shape = geometry; time = time; sets = lanes.now }) }
+    {
+        let mut starts = Vec::with_capacity(alloc, lanes.len() + 1)?;
+        let mut entries = Vec::new(alloc);
+        starts.push_reserved(0);
+        for lane in lanes {
+            entries.extend_from_slice(lane.as_slice())?;
+            starts.push_reserved(entries.len() as u32);
+        }
+        Ok(Snapshot {
+            geometry,
+            time,
+            starts,
+            entries,
+        })
+    }
+
+    /// The snapshot of entries that are dealt out to the sets, so many to each in turn, or the first fault
+    /// in the order of the sets, and then of their places.
+    pub fn from_sets(
+        alloc: Global,
+        geometry: Geometry,
+        time: u64,
+        counts: &[u8],
+        entries: &[Entry],
+    ) -> Result<Snapshot, Refusal<RecordFault>>
+        requires sets { length counts.now ≡ sets_of geometry }
+        requires entries { sum counts.now ≡ length entries.now }
+        ensures { Answers (λ snapshot. snapshot) result (judged geometry time (dealt counts.now entries.now)) }
+    {
+        match first_fault(geometry, time, counts, entries) {
+            Some(fault) => Err(Refusal::Fault(fault)),
+            None => Ok(Snapshot::of_row(alloc, geometry, time, counts, entries)?),
+        }
+    }
+
+    /// The snapshot of entries that break no rule.
+    fn of_row(
+        alloc: Global,
+        geometry: Geometry,
+        time: u64,
+        counts: &[u8],
+        entries: &[Entry],
+    ) -> Result<Snapshot, NoMemory>
+        requires sets { length counts.now ≡ sets_of geometry }
+        requires entries { sum counts.now ≡ length entries.now }
+        requires sound { sets_fault geometry time 0 (dealt counts.now entries.now) ≡ None }
+        ensures { IfOk result (λ snapshot. snapshot
+            ≡ record { shape = geometry; time = time; sets = dealt counts.now entries.now }) }
+    {
+        let mut starts = Vec::with_capacity(alloc, geometry.sets() as usize + 1)?;
+        let mut start = 0;
+        starts.push_reserved(0);
+        for count in counts {
+            start += u32::from(*count);
+            starts.push_reserved(start);
+        }
+        Ok(Snapshot {
+            geometry,
+            time,
+            starts,
+            entries: Vec::from_slice(alloc, entries)?,
+        })
+    }
+
+    pub fn geometry(&self) -> Geometry
+        ensures value { result ≡ self.now.shape }
+        ensures snapshot { IsRecency self.now }
+    {
+        self.geometry
+    }
+
+    /// How many references there were.
+    pub fn time(&self) -> u64
+        ensures { result ≡ self.now.time }
+    {
+        self.time
+    }
+
+    /// The entries of a set, by falling time.
+    pub fn entries(&self, set: u32) -> &[Entry]
+        requires { set < sets_of self.now.shape }
+        ensures value { result.now ≡ slice_index_or self.now.sets set [] }
+        ensures snapshot { IsRecency self.now }
+    {
+        let set = set as usize;
+        let start = self.starts[set] as usize;
+        let end = self.starts[set + 1] as usize;
+        &self.entries[start..end]
+    }
+}

@@ -1,0 +1,154 @@
+ghost use Rattle.std.specs.Prelude.{◌≡◌, ◌≤◌, length, sum};
+
+use super::*;
+use lru_plain::Geometry;
+use smarts_base::Refusal;
+use std::alloc::Global;
+use std::test::Fail;
+
+/// A geometry that there is.
+fn shape(line_log: u8, sets_log: u8, ways: u8) -> Result<Geometry, Fail> {
+    Ok(Geometry::new(line_log, sets_log, ways).ok_or("no such geometry")?)
+}
+
+/// A record of these addresses.
+fn record_of(alloc: Global, geometry: Geometry, addrs: &[u32]) -> Result<Record, Fail> {
+    let mut record = Record::new(alloc, geometry)?;
+    for addr in addrs {
+        if record.time() < 1 << 63 {
+            record.refer(*addr);
+        }
+    }
+    Ok(record)
+}
+
+/// Whether there is such a set, and it has these entries.
+fn holds(snapshot: &Snapshot, set: u32, entries: &[Entry]) -> bool {
+    set < snapshot.geometry().sets() && snapshot.entries(set) == entries
+}
+
+fn entry(block: u32, time: u64) -> Entry {
+    Entry { block, time }
+}
+
+#[test]
+fn keeps_the_latest_uses(rt: HostRuntime) -> Result<(), Fail> {
+    let geometry = shape(6, 2, 2)?;
+    let record = record_of(rt.alloc(), geometry, &[0, 256, 64, 320, 0])?;
+    assert_eq!(rt; record.time(), 5);
+    assert!(rt; record.geometry() == geometry);
+    let told = record.snapshot(rt.alloc())?;
+    assert_eq!(rt; told.time(), 5);
+    assert!(rt; holds(&told, 0, &[entry(0, 4), entry(4, 1)]));
+    assert!(rt; holds(&told, 1, &[entry(5, 3), entry(1, 2)]));
+    assert!(rt; holds(&told, 2, &[]));
+    assert!(rt; holds(&told, 3, &[]));
+    Ok(())
+}
+
+/// The sum of these numbers.
+fn total(counts: &[u8]) -> u64
+    requires { length counts.now ≤ 4096 }
+    ensures { result ≡ sum counts.now }
+{
+    let mut total = 0;
+    for count in counts {
+        total += u64::from(*count);
+    }
+    total
+}
+
+/// What `from_sets` answers, where it may be called.
+fn judged(
+    alloc: Global,
+    geometry: Geometry,
+    time: u64,
+    counts: &[u8],
+    entries: &[Entry],
+) -> Result<Option<RecordFault>, Fail> {
+    if counts.len() > 4096
+        || counts.len() != geometry.sets() as usize
+        || total(counts) != entries.len() as u64
+    {
+        return Err("the counts don't fit".into());
+    }
+    match Snapshot::from_sets(alloc, geometry, time, counts, entries) {
+        Ok(_snapshot) => Ok(None),
+        Err(Refusal::Fault(fault)) => Ok(Some(fault)),
+        Err(Refusal::NoMemory) => Err("no memory".into()),
+    }
+}
+
+#[test]
+fn judges_sets(rt: HostRuntime) -> Result<(), Fail> {
+    let geometry = shape(6, 2, 2)?;
+    let high = 1 << 26;
+    let cases: [(u64, [u8; 4], &[Entry], Option<RecordFault>); 11] = [
+        (5, [0, 0, 0, 0], &[], None),
+        (
+            5,
+            [2, 2, 0, 0],
+            &[entry(0, 4), entry(4, 1), entry(5, 3), entry(1, 2)],
+            None,
+        ),
+        (
+            5,
+            [3, 0, 0, 0],
+            &[entry(0, 4), entry(0, 4), entry(8, 1)],
+            Some(RecordFault::TooMany { set: 0, place: 0 }),
+        ),
+        (
+            5,
+            [0, 1, 0, 0],
+            &[entry(4, 4)],
+            Some(RecordFault::WrongSet { set: 1, place: 0 }),
+        ),
+        (
+            5,
+            [1, 0, 0, 0],
+            &[entry(high, 4)],
+            Some(RecordFault::WrongSet { set: 0, place: 0 }),
+        ),
+        (
+            5,
+            [0, 2, 0, 0],
+            &[entry(4, 4), entry(4, 4)],
+            Some(RecordFault::WrongSet { set: 1, place: 0 }),
+        ),
+        (
+            5,
+            [2, 0, 0, 0],
+            &[entry(4, 4), entry(4, 5)],
+            Some(RecordFault::Repeated { set: 0, place: 1 }),
+        ),
+        (
+            4,
+            [0, 0, 0, 1],
+            &[entry(7, 4)],
+            Some(RecordFault::TimeRange { set: 3, place: 0 }),
+        ),
+        (
+            5,
+            [2, 0, 0, 0],
+            &[entry(4, 3), entry(0, 3)],
+            Some(RecordFault::NotDescending { set: 0, place: 1 }),
+        ),
+        (
+            5,
+            [2, 0, 0, 0],
+            &[entry(4, 3), entry(0, 5)],
+            Some(RecordFault::TimeRange { set: 0, place: 1 }),
+        ),
+        (
+            5,
+            [0, 1, 2, 0],
+            &[entry(1, 4), entry(2, 1), entry(6, 2)],
+            Some(RecordFault::NotDescending { set: 2, place: 1 }),
+        ),
+    ];
+    for (time, counts, entries, fault) in cases {
+        let answer = judged(rt.alloc(), geometry, time, counts.as_slice(), entries)?;
+        assert_eq!(rt; answer, fault);
+    }
+    Ok(())
+}
