@@ -21,14 +21,26 @@ fn words(alloc: Global, line: &str) -> Result<Vec<String>, NoMemory> {
     Ok(words)
 }
 
-fn expect(
+fn expect_fault(
     rt: &(impl Abort + AllocGlobal),
     line: &str,
-    expected: Result<Command, (WordKind, u32)>,
+    kind: WordKind,
+    place: u32,
 ) -> Result<(), Fail> {
     let words = words(rt.alloc(), line)?;
-    let expected = expected.map_err(|(kind, place)| Refusal::Fault(WordFault { kind, place }));
-    assert_eq!(rt; read_words(&words), expected, "{line}");
+    let fault = Refusal::Fault(WordFault { kind, place });
+    assert_eq!(rt; read_words(&words), Err(fault), "{line}");
+    Ok(())
+}
+
+fn expect_command(
+    rt: &(impl Abort + AllocGlobal),
+    line: &str,
+    command: &Command,
+) -> Result<(), Fail> {
+    let words = words(rt.alloc(), line)?;
+    let answer = read_words(&words);
+    assert_eq!(rt; answer.as_ref().ok(), Some(command), "{line}");
     Ok(())
 }
 
@@ -86,6 +98,15 @@ fn names_the_first_fault(rt: HostRuntime) -> Result<(), Fail> {
             4,
         ),
         ("sample offset=1 every=1 unit=x", WordKind::BadValue, 3),
+    ] {
+        expect_fault(&rt, line, kind, place)?;
+    }
+    Ok(())
+}
+
+#[test]
+fn names_faults_of_processors_and_sizes(rt: HostRuntime) -> Result<(), Fail> {
+    for (line, kind, place) in [
         ("sample ruu=8", WordKind::LsqOverRuu, 2),
         ("sample machine=scalar lsq=33", WordKind::LsqOverRuu, 3),
         (
@@ -139,7 +160,7 @@ fn names_the_first_fault(rt: HostRuntime) -> Result<(), Fail> {
         ("demo size=1 size=1", WordKind::Repeated, 2),
         ("run ruu=32", WordKind::UnknownKey, 1),
     ] {
-        expect(&rt, line, Err((kind, place)))?;
+        expect_fault(&rt, line, kind, place)?;
     }
     Ok(())
 }
@@ -183,7 +204,7 @@ fn reads_commands(rt: HostRuntime) -> Result<(), Fail> {
         seed: 1_000_000_000_000_000_000,
         budget: 1 << 36,
     };
-    for (line, command) in [
+    let cases = [
         ("sample", sample(design, usual_config()?, test)),
         (
             "sample unit=0000000000000001000 machine=ruu offset=0 predictor=gshare:0012:9:8",
@@ -239,8 +260,9 @@ fn reads_commands(rt: HostRuntime) -> Result<(), Fail> {
             },
         ),
         ("run budget=68719476736", Command::Run { budget: 1 << 36 }),
-    ] {
-        expect(&rt, line, Ok(command))?;
+    ];
+    for (line, command) in &cases {
+        expect_command(&rt, line, command)?;
     }
     Ok(())
 }
