@@ -21,7 +21,8 @@ WORK = [("sort-m-os.elf", 3003406), ("mix-m-cl.elf", 2207626)]
 
 
 def seconds(command, image):
-    """The seconds that a command takes on an image, and the most memory that it holds, in MiB."""
+    """The seconds that a command takes on an image, and the most memory that it holds, in MiB: at least the 14
+    or so of this interpreter, which its process begins as."""
     with open(image, "rb") as source:
         begin = time.perf_counter()
         child = subprocess.Popen(command, stdin=source, stdout=subprocess.DEVNULL, stderr=subprocess.DEVNULL)
