@@ -7,7 +7,8 @@ use Rattle.recency_record.specs.Each.{Each}
 use Rattle.recency_record.specs.Slots.{placed, by_time}
 use Rattle.recency_record.specs.Recency.{Recency, IsRecency, IsSet, IsEntry, IsRanked}
 use Rattle.recency_record.proofs.Eachs.{each_weaker, each_append, each_take}
-use Rattle.rebuild.specs.Merge.{Fits, AreApart, united}
+use Rattle.rebuild.specs.Merge.{united}
+use Rattle.rebuild.specs.Pouring.{AreApart}
 use Rattle.rebuild.proofs.Placing.{each_placed, each_by_time}
 use Rattle.rebuild.proofs.Merging.{small_home}
 

@@ -6,7 +6,7 @@ use Rattle.lru_plain.specs.Shape.{Shape}
 use Rattle.lru_plain.specs.Cache.{Cache}
 use Rattle.recency_record.specs.declared.entry.Entry.{Entry}
 use Rattle.recency_record.specs.Each.{Each}
-use Rattle.rebuild.specs.Merge.{AreApart}
+use Rattle.rebuild.specs.Pouring.{AreApart}
 use Rattle.rebuild.proofs.PlainSets.{blocks_in}
 
 each_at : (P : Entry → Type 0) (es : List Entry) (k : ℕ) (d : Entry) → Each P es → k < length es → P (get_or es k d)

@@ -5,7 +5,7 @@ use Rattle.recency_record.specs.declared.entry.Entry.{Entry}
 use Rattle.recency_record.specs.Each.{Each}
 use Rattle.recency_record.specs.Slots.{placed, by_time}
 use Rattle.recency_record.proofs.Sorting.{placed_first}
-use Rattle.rebuild.specs.Merge.{poured, places_later}
+use Rattle.rebuild.specs.Pouring.{poured, places_later}
 
 take_less : (n : ℕ) (xs : List Entry) → take n (take (suc n) xs) ≡ take n xs
 take_less zero xs = refl

@@ -7,7 +7,8 @@ use Rattle.std.proofs.lemmas.Bool.{ne_eqb}
 use Rattle.std.proofs.lemmas.List.{drop_all, get_or-drop, drop-drop, length-drop}
 use Rattle.recency_record.specs.declared.entry.Entry.{Entry}
 use Rattle.recency_record.specs.Slots.{by_time}
-use Rattle.rebuild.specs.Merge.{united, poured}
+use Rattle.rebuild.specs.Merge.{united}
+use Rattle.rebuild.specs.Pouring.{poured}
 use Rattle.rebuild.proofs.Placing.{poured_sorted}
 
 pub large_below : (count turns left set : ℕ) → left < turns → set < count → count * left + set < count * turns

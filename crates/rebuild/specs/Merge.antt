@@ -1,12 +1,11 @@
 -- The sets of a smaller cache, from what a record tells of a larger one.
-use Rattle.std.specs.Prelude.{◌≡◌, ◌≢◌, ℕ, suc, nat_le, ◌+◌, ◌%◌, ◌≤◌, ◌==◌, if◌then◌else◌, List, [], ◌∷◌, ◌++◌, map, take}
+use Rattle.std.specs.Prelude.{◌≡◌, ℕ, ◌+◌, ◌%◌, ◌≤◌, ◌==◌, if◌then◌else◌, List, [], ◌∷◌, ◌++◌, map, take}
 use Rattle.std.specs.List.{range_with_len}
-use Rattle.lru_plain.specs.Shape.{Shape, IsShape, sets_of}
+use Rattle.lru_plain.specs.Shape.{Shape, sets_of}
 use Rattle.lru_plain.specs.Cache.{plain}
 use Rattle.recency_record.specs.declared.entry.Entry.{Entry}
 use Rattle.recency_record.specs.Recency.{Recency, record_of}
-use Rattle.recency_record.specs.Each.{Each}
-use Rattle.recency_record.specs.Slots.{placed, by_time}
+use Rattle.recency_record.specs.Slots.{by_time}
 
 -- the smaller cache has the same lines, and no more sets and ways
 pub record Fits (large small : Shape) : Type 0 where
@@ -32,19 +31,3 @@ abbrev pub RebuildsPlain : Type 0
 RebuildsPlain =
     (addrs : List ℕ) (large small : Shape) → Fits large small
     → merged (record_of addrs large) small ≡ plain addrs small
-
--- what a list of the most recent entries becomes, when the entries of one more set are put into it, from its
--- last to its first
-abbrev pub poured : ℕ → List Entry → List Entry → List Entry
-poured ways [] list = list
-poured ways (e ∷ es) list = take ways (placed e (poured ways es list))
-
--- how many entries come before the first that is no later than this time
-abbrev pub places_later : List Entry → ℕ → ℕ
-places_later [] time = 0
-places_later (x ∷ xs) time = if nat_le x.time time then 0 else suc (places_later xs time)
-
--- no block comes twice
-abbrev pub AreApart : List Entry → Type 0
-AreApart [] = Unit {0}
-AreApart (e ∷ es) = Each (λ later. later.block ≢ e.block) es × AreApart es

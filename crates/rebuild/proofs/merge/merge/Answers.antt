@@ -13,7 +13,7 @@ loop-turn-preserved c =
     c.large_set-large.ensures.value ∙ ap (λ (n : ℕ). c.args.count * n + c.args.set) left in
     record {
       merged = turn_more c.args.count c.args.set c.args.ways (c.args.turns - c.loop-turn.turn)
-          (c.args.turns - (c.loop-turn.turn + 1)) c.args.snapshot.now.sets c.entries.result.now c.loop-turn.list.items _
+          (c.args.turns - (c.loop-turn.turn + 1)) c.args.snapshot.now.sets c.entries.result.now c.loop-turn.latest.items _
           step c.requires.set (omega (arith, most, c.requires.turns)) c.loop-turn.invariant.merged
           (c.entries.ensures.value ∙ ap (λ (n : ℕ). get_or c.args.snapshot.now.sets n []) large) c.pour.ensures.poured;
       cut = c.pour.ensures.cut;

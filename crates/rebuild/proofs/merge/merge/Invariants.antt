@@ -5,7 +5,7 @@ use Rattle.rebuild.proofs.merge.merge.Given as goal
 
 abbrev pub invariant-loop-turn : goal.invariant-loop-turn
 invariant-loop-turn l = record {
-  merged : l.list.items
+  merged : l.latest.items
       ≡ take l.ways (by_time (united l.count l.set (l.count * (l.turns - l.turn)) (drop (l.count * (l.turns - l.turn)) l.snapshot.sets)));
-  cut : length l.list.items ≤ l.ways;
+  cut : length l.latest.items ≤ l.ways;
 }

@@ -1,5 +1,5 @@
 use Rattle.std.proofs.Common.{◌≡◌, ◌≤◌, ◌-◌, length, drop}
-use Rattle.rebuild.specs.Merge.{poured}
+use Rattle.rebuild.specs.Pouring.{poured}
 use Rattle.rebuild.proofs.merge.pour.Given as goal
 
 abbrev pub invariant-loop-turn : goal.invariant-loop-turn

@@ -1,0 +1,21 @@
+-- How the merge goes: the sets' entries are put into one short list, from the last set to the first.
+use Rattle.std.specs.Prelude.{◌≢◌, ℕ, suc, nat_le, if◌then◌else◌, List, [], ◌∷◌, take}
+use Rattle.recency_record.specs.declared.entry.Entry.{Entry}
+use Rattle.recency_record.specs.Each.{Each}
+use Rattle.recency_record.specs.Slots.{placed}
+
+-- what a list of the most recent entries becomes, when the entries of one more set are put into it, from its
+-- last to its first
+abbrev pub poured : ℕ → List Entry → List Entry → List Entry
+poured ways [] list = list
+poured ways (e ∷ es) list = take ways (placed e (poured ways es list))
+
+-- how many entries come before the first that is no later than this time
+abbrev pub places_later : List Entry → ℕ → ℕ
+places_later [] time = 0
+places_later (x ∷ xs) time = if nat_le x.time time then 0 else suc (places_later xs time)
+
+-- no block comes twice
+abbrev pub AreApart : List Entry → Type 0
+AreApart [] = Unit {0}
+AreApart (e ∷ es) = Each (λ later. later.block ≢ e.block) es × AreApart es
