@@ -77,6 +77,24 @@ fn follows(alloc: Global, told: &Snapshot, small: Geometry, addrs: &[u32]) -> Re
     Ok(fate == Ok(()) && are_same(&rebuilt, &plain))
 }
 
+/// Whether every smaller cache follows.
+fn all_follow(
+    alloc: Global,
+    told: &Snapshot,
+    large: Geometry,
+    addrs: &[u32],
+) -> Result<bool, Fail> {
+    for sets_log in 0..=large.sets_log() {
+        for ways in 1..=large.ways() {
+            let small = shape(large.line_log(), sets_log, ways)?;
+            if !follows(alloc, told, small, addrs)? {
+                return Ok(false);
+            }
+        }
+    }
+    Ok(true)
+}
+
 #[test]
 fn follows_every_smaller_cache(rt: HostRuntime) -> Result<(), Fail> {
     // One set, full sets, sets of one way, and the largest record.
@@ -92,34 +110,56 @@ fn follows_every_smaller_cache(rt: HostRuntime) -> Result<(), Fail> {
         for addr in addrs.iter_mut() {
             *addr = draws.draw() & mask;
         }
-        let told = snapshot_of(
-            rt.alloc(),
-            shape(line_log, sets_log, ways)?,
-            addrs.as_slice(),
-        )?;
-        for small_log in 0..=sets_log {
-            for small_ways in 1..=ways {
-                let small = shape(line_log, small_log, small_ways)?;
-                assert!(rt; follows(rt.alloc(), &told, small, addrs.as_slice())?);
-            }
-        }
+        let large = shape(line_log, sets_log, ways)?;
+        let told = snapshot_of(rt.alloc(), large, addrs.as_slice())?;
+        assert!(rt; all_follow(rt.alloc(), &told, large, addrs.as_slice())?);
     }
     Ok(())
 }
 
 #[test]
 fn gives_ties_to_the_lower_set(rt: HostRuntime) -> Result<(), Fail> {
-    let geometry = shape(6, 1, 2)?;
-    if geometry.sets() != 2 {
+    let large = shape(4, 2, 2)?;
+    if large.sets() != 4 {
         return Err("other sets".into());
     }
-    let entries = [(2, 3), (0, 1), (3, 3), (1, 2)].map(|(block, time)| Entry { block, time });
-    let told = match Snapshot::from_sets(rt.alloc(), geometry, 4, &[2, 2], &entries) {
-        Ok(told) => told,
-        Err(_refusal) => return Err("refused".into()),
-    };
-    let mut cache = PlainCache::new(rt.alloc(), shape(6, 0, 2)?)?;
-    assert_eq!(rt; rebuild(&told, &mut [], &mut cache), Ok(()));
-    assert!(rt; holds(&cache, 0, &[2, 3]));
+    // The blocks and times of each set, and the blocks in the order in which a cache has to see them: by rising
+    // time, and of one time those of the higher sets first.
+    let cases = [
+        (
+            [
+                (0, 9),
+                (4, 5),
+                (1, 9),
+                (5, 5),
+                (2, 9),
+                (6, 5),
+                (3, 9),
+                (7, 5),
+            ],
+            [7, 6, 5, 4, 3, 2, 1, 0],
+        ),
+        (
+            [
+                (0, 3),
+                (4, 2),
+                (5, 4),
+                (1, 3),
+                (6, 2),
+                (2, 1),
+                (3, 3),
+                (7, 0),
+            ],
+            [7, 2, 6, 4, 3, 1, 0, 5],
+        ),
+    ];
+    for (entries, order) in cases {
+        let entries = entries.map(|(block, time)| Entry { block, time });
+        let addrs = order.map(|block| block << 4);
+        match Snapshot::from_sets(rt.alloc(), large, 10, &[2, 2, 2, 2], &entries) {
+            Ok(told) => assert!(rt; all_follow(rt.alloc(), &told, large, addrs.as_slice())?),
+            Err(_refusal) => return Err("refused".into()),
+        }
+    }
     Ok(())
 }

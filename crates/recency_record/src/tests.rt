@@ -31,18 +31,31 @@ fn entry(block: u32, time: u64) -> Entry {
     Entry { block, time }
 }
 
+/// Whether this is what a record of the blocks 0, 4, 1, 5 and 0 tells, with four sets of two ways.
+fn is_example(snapshot: &Snapshot) -> bool {
+    snapshot.time() == 5
+        && holds(snapshot, 0, &[entry(0, 4), entry(4, 1)])
+        && holds(snapshot, 1, &[entry(5, 3), entry(1, 2)])
+        && holds(snapshot, 2, &[])
+        && holds(snapshot, 3, &[])
+}
+
 #[test]
 fn keeps_the_latest_uses(rt: HostRuntime) -> Result<(), Fail> {
     let geometry = shape(6, 2, 2)?;
     let record = record_of(rt.alloc(), geometry, &[0, 256, 64, 320, 0])?;
     assert_eq!(rt; record.time(), 5);
     assert!(rt; record.geometry() == geometry);
-    let told = record.snapshot(rt.alloc())?;
-    assert_eq!(rt; told.time(), 5);
-    assert!(rt; holds(&told, 0, &[entry(0, 4), entry(4, 1)]));
-    assert!(rt; holds(&told, 1, &[entry(5, 3), entry(1, 2)]));
-    assert!(rt; holds(&told, 2, &[]));
-    assert!(rt; holds(&told, 3, &[]));
+    assert!(rt; is_example(&record.snapshot(rt.alloc())?));
+
+    if geometry.sets() != 4 {
+        return Err("other sets".into());
+    }
+    let entries = [(0, 4), (4, 1), (5, 3), (1, 2)].map(|(block, time)| Entry { block, time });
+    match Snapshot::from_sets(rt.alloc(), geometry, 5, &[2, 2, 0, 0], &entries) {
+        Ok(made) => assert!(rt; is_example(&made)),
+        Err(_refusal) => return Err("refused".into()),
+    }
     Ok(())
 }
 
