@@ -1,20 +1,18 @@
 -- The sets merged from a record are those of the plain cache.
-use Rattle.std.proofs.Common.{◌≡◌, ◌≢◌, ℕ, zero, suc, ◌+◌, ◌-◌, ◌*◌, ◌%◌, ◌^◌, ◌<◌, ◌≤◌, Bool, true, false, eqb, List, [], ◌∷◌, ◌++◌, length, map, take, filter, refl, sym, ap, ◌∙◌, arith, pow_pos, mod-lt, pow-add}
+use Rattle.std.proofs.Common.{◌≡◌, ℕ, ◌+◌, ◌-◌, ◌*◌, ◌%◌, ◌^◌, ◌<◌, ◌≤◌, Bool, eqb, List, [], ◌∷◌, map, take, filter, refl, sym, ap, ◌∙◌, arith, pow-add}
 use Rattle.std.specs.List.{range_with_len}
 use Rattle.std.proofs.Math.Nat.{mod-mod_of_dvd, dvd-mul_right}
-use Rattle.lru_plain.specs.Shape.{Shape, sets_of, block_of, home_of}
-use Rattle.lru_plain.specs.Cache.{plain}
+use Rattle.lru_plain.specs.Shape.{Shape, sets_of, home_of}
 use Rattle.recency_record.specs.declared.entry.Entry.{Entry}
-use Rattle.recency_record.specs.Each.{Each}
 use Rattle.recency_record.specs.Uses.{last_uses, entries_of}
 use Rattle.recency_record.specs.Slots.{by_time}
-use Rattle.recency_record.specs.Recency.{Recency, record_of, recent, blocks_of}
+use Rattle.recency_record.specs.Recency.{record_of, recent, blocks_of}
 use Rattle.recency_record.proofs.Eachs.{each_all}
 use Rattle.recency_record.proofs.LastUses.{last_uses_ranked}
 use Rattle.recency_record.proofs.Referring.{home_below}
 use Rattle.rebuild.specs.Merge.{Fits, RebuildsPlain, merged, merged_set, united}
 use Rattle.rebuild.proofs.Uniting.{gathered_dealt}
-use Rattle.rebuild.proofs.PlainSets.{plain_is, plain_set, plain_sets, blocks_in}
+use Rattle.rebuild.proofs.PlainSets.{plain_is, plain_set, blocks_in}
 
 -- the home in the small cache, by the home in the large one
 pub small_home : (large small : Shape) (block : ℕ) → small.sets_log ≤ large.sets_log

@@ -1,16 +1,15 @@
 -- The plain cache after a list of addresses, by last uses.
-use Rattle.std.proofs.Common.{◌≡◌, ◌≢◌, ℕ, zero, suc, ◌+◌, ◌-◌, ◌<◌, ◌≤◌, Bool, true, false, not, eqb, List, [], ◌∷◌, ◌++◌, length, map, take, drop, get_or, set, filter, replicate, refl, sym, ap, ◌∙◌, inl, inr, arith, eq-eqb}
+use Rattle.std.proofs.Common.{◌≡◌, ◌≢◌, ℕ, zero, suc, ◌+◌, ◌<◌, eqb, List, [], ◌∷◌, ◌++◌, length, map, take, get_or, set, replicate, refl, sym, ap, ◌∙◌, inl, inr, arith, eq-eqb}
 use Rattle.std.specs.List.{range_with_len}
 use Rattle.std.proofs.lemmas.Bool.{cases_eq, ne_eqb}
-use Rattle.std.proofs.lemmas.List.{map-append, length-map, take-map}
+use Rattle.std.proofs.lemmas.List.{map-append, take-map}
 use Rattle.std.proofs.lemmas.List.FromFn.{get_or-map-range_with_len}
 use Rattle.lru_plain.specs.Shape.{Shape, sets_of, block_of, home_of}
-use Rattle.lru_plain.specs.Cache.{plain, touched, touched_set, without, empty_sets}
+use Rattle.lru_plain.specs.Cache.{plain, touched_set, without}
 use Rattle.lru_plain.proofs.Plains.{plain_none, plain_more}
 use Rattle.recency_record.specs.declared.entry.Entry.{Entry}
-use Rattle.recency_record.specs.Each.{Each}
 use Rattle.recency_record.specs.Uses.{last_uses, entries_of}
-use Rattle.recency_record.specs.Recency.{IsRanked, others, used_set, recent, blocks_of}
+use Rattle.recency_record.specs.Recency.{IsRanked, others, recent, blocks_of}
 use Rattle.recency_record.proofs.Eachs.{each_weaker}
 use Rattle.recency_record.proofs.Ranks.{others_all, ranked_filter, ranked_take}
 use Rattle.recency_record.proofs.LastUses.{by_push, last_uses_none, last_uses_ranked}

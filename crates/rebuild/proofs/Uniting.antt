@@ -1,11 +1,11 @@
 -- The sets of one class, united, when a list of falling times was dealt out to the sets and cut.
-use Rattle.std.proofs.Common.{◌≡◌, ◌≢◌, ℕ, zero, suc, ◌+◌, ◌-◌, ◌*◌, ◌%◌, ◌<◌, ◌≤◌, Bool, true, false, eqb, cond, List, [], ◌∷◌, ◌++◌, length, map, take, drop, get_or, filter, refl, sym, ap, ◌∙◌, inl, inr, arith, eq-eqb, eqb-true, if◌then◌else◌}
+use Rattle.std.proofs.Common.{◌≡◌, ◌≢◌, ℕ, zero, suc, ◌+◌, ◌-◌, ◌%◌, ◌<◌, ◌≤◌, true, eqb, List, [], ◌∷◌, ◌++◌, map, take, filter, refl, sym, ap, ◌∙◌, inl, inr, arith, eq-eqb, eqb-true, if◌then◌else◌}
 use Rattle.std.specs.List.{range_with_len}
 use Rattle.std.proofs.lemmas.Bool.{cases_Bool, cases_eq, ne_eqb}
 use Rattle.recency_record.specs.declared.entry.Entry.{Entry}
 use Rattle.recency_record.specs.Each.{Each}
 use Rattle.recency_record.specs.Recency.{IsRanked}
-use Rattle.recency_record.specs.Slots.{placed, by_time}
+use Rattle.recency_record.specs.Slots.{by_time}
 use Rattle.recency_record.proofs.Eachs.{each_weaker, each_append, each_take, each_filter}
 use Rattle.rebuild.specs.Merge.{united}
 use Rattle.rebuild.proofs.Placing.{first_behind, first_of_all}

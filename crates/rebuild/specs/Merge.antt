@@ -23,6 +23,7 @@ united count set first (es ∷ rest) =
 abbrev pub merged_set : Recency → Shape → ℕ → List ℕ
 merged_set r g set = map (λ e. e.block) (take g.ways (by_time (united (sets_of g) set 0 r.sets)))
 
+-- all sets of the smaller cache
 unfoldable pub merged : Recency → Shape → List (List ℕ)
 merged r g = map (merged_set r g) (range_with_len 0 (sets_of g))
 

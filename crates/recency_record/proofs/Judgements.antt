@@ -1,14 +1,14 @@
 -- Entries that break no rule are those of a snapshot.
-use Rattle.std.proofs.Common.{◌≡◌, ◌≢◌, ℕ, zero, suc, ◌+◌, ◌-◌, ◌^◌, ◌<◌, ◌≤◌, Bool, true, false, not, ◌&&◌, ◌||◌, eqb, leb, ltb, cond, List, [], ◌∷◌, ◌++◌, length, take, drop, get_or, slice_get, Option, Some, None, refl, sym, ap, subst, ◌∙◌, inl, inr, arith, true≢false, eqb-true, eq-eqb, ltb-true, ltb-false, leb-false, append_assoc, append-nil, one-mul, ◌*◌}
+use Rattle.std.proofs.Common.{◌≡◌, ◌≢◌, ℕ, zero, suc, ◌+◌, ◌-◌, ◌^◌, ◌<◌, Bool, true, false, not, eqb, ltb, cond, List, [], ◌∷◌, ◌++◌, length, get_or, slice_get, Option, Some, None, refl, sym, subst, ◌∙◌, arith, true≢false, eqb-true, eq-eqb, ltb-true, ltb-false, leb-false, append_assoc, append-nil, one-mul, ◌*◌}
 use Rattle.std.specs.List.{list_any}
-use Rattle.std.proofs.lemmas.Bool.{cases_Bool, and_parts, or_parts}
+use Rattle.std.proofs.lemmas.Bool.{and_parts, or_parts}
 use Rattle.smarts_base.specs.Least.{or_else}
 use Rattle.lru_plain.specs.Shape.{Shape, IsShape, sets_of, home_of}
 use Rattle.recency_record.specs.declared.entry.Entry.{Entry}
 use Rattle.recency_record.specs.declared.fault.RecordFault.{RecordFault}
 use Rattle.recency_record.specs.declared.fault.RecordFault.TheVariants.{TooMany, WrongSet, Repeated, TimeRange, NotDescending}
 use Rattle.recency_record.specs.Each.{Each}
-use Rattle.recency_record.specs.Recency.{Recency, IsRecency, IsSet, IsEntry, IsRanked}
+use Rattle.recency_record.specs.Recency.{IsRecency, IsSet, IsEntry, IsRanked}
 use Rattle.recency_record.specs.Faults.{belongs, is_no_later, entry_fault, entries_fault, set_fault, sets_fault}
 use Rattle.recency_record.proofs.Eachs.{each_append, each_both}
 use Rattle.recency_record.proofs.Ranks.{ranked_push}

@@ -1,14 +1,13 @@
 -- What a record holds, said of each block by itself.
-use Rattle.std.proofs.Common.{◌≡◌, ◌≢◌, ℕ, zero, suc, ◌+◌, ◌-◌, ◌<◌, ◌≤◌, ◌↔◌, Bool, true, false, not, ◌&&◌, ◌||◌, eqb, ltb, cond, List, [], ◌∷◌, ◌++◌, length, map, take, drop, get_or, slice_get, filter, Option, Some, None, refl, sym, ap, subst, ◌∙◌, inl, inr, ◌⊎◌, arith, eq-eqb, eqb-true, lt-ltb, le-ltb, ltb-true, add-one, true≢false, le_of_lt, ap₂, unwrap_or}
+use Rattle.std.proofs.Common.{◌≡◌, ◌≢◌, ℕ, zero, suc, ◌+◌, ◌-◌, ◌<◌, Bool, true, false, not, ◌&&◌, eqb, ltb, cond, List, [], ◌∷◌, length, take, drop, get_or, slice_get, filter, Option, Some, refl, sym, ap, subst, ◌∙◌, inl, inr, ◌⊎◌, arith, eq-eqb, eqb-true, lt-ltb, le-ltb, true≢false, le_of_lt, ap₂, unwrap_or}
 use Rattle.std.specs.List.{list_any, Contains}
-use Rattle.std.proofs.lemmas.Bool.{cases_eq, cases_Bool, ne_eqb, false≢true, or_left, or_right}
+use Rattle.std.proofs.lemmas.Bool.{cases_eq, cases_Bool, false≢true, or_left, or_right}
 use Rattle.std.proofs.lemmas.List.{get_or-drop, length-drop}
-use Rattle.std.proofs.Math.Seq.{drop-cons}
-use Rattle.lru_plain.specs.Shape.{Shape, sets_of, home_of}
+use Rattle.lru_plain.specs.Shape.{Shape, home_of}
 use Rattle.recency_record.specs.declared.entry.Entry.{Entry}
 use Rattle.recency_record.specs.Each.{Each}
 use Rattle.recency_record.specs.Uses.{is_last_place, uses_before, last_uses, entries_of, IsLastPlace, places_below, later_last_places}
-use Rattle.recency_record.specs.Recency.{HoldsLastUses, record_of, recent, blocks_of, IsRanked}
+use Rattle.recency_record.specs.Recency.{HoldsLastUses, record_of, blocks_of, IsRanked}
 use Rattle.recency_record.proofs.Eachs.{each_weaker}
 use Rattle.recency_record.proofs.LastUses.{last_uses_ranked}
 use Rattle.recency_record.proofs.Ranks.{ranked_filter}

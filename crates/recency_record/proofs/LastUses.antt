@@ -1,5 +1,5 @@
 -- The last uses of a list of references, and of the list with one more.
-use Rattle.std.proofs.Common.{◌≡◌, ◌≢◌, ℕ, zero, suc, ◌+◌, ◌-◌, ◌<◌, ◌≤◌, Bool, true, false, not, ◌&&◌, ◌||◌, eqb, cond, List, [], ◌∷◌, ◌++◌, length, take, drop, get_or, filter, refl, sym, ap, subst, ◌∙◌, inl, inr, arith, eq-eqb, append-nil, append_assoc, add-one}
+use Rattle.std.proofs.Common.{◌≡◌, ℕ, zero, suc, ◌+◌, ◌<◌, ◌≤◌, Bool, true, false, not, ◌&&◌, ◌||◌, eqb, cond, List, [], ◌∷◌, ◌++◌, length, drop, get_or, refl, sym, subst, inl, inr, arith, eq-eqb, append-nil, append_assoc, add-one}
 use Rattle.std.specs.List.{list_any}
 use Rattle.std.proofs.lemmas.Bool.{cases_eq, cases_Bool, ne_eqb}
 use Rattle.std.proofs.lemmas.List.{get_or_append_left, get_or_push, length_push, drop_all}
@@ -7,8 +7,7 @@ use Rattle.recency_record.specs.declared.entry.Entry.{Entry}
 use Rattle.recency_record.specs.Each.{Each}
 use Rattle.recency_record.specs.Uses.{is_last_place, uses_before, last_uses}
 use Rattle.recency_record.specs.Recency.{others, IsRanked}
-use Rattle.recency_record.proofs.Eachs.{each_weaker}
-use Rattle.recency_record.proofs.Ranks.{ranked_more, same_test, other_test}
+use Rattle.recency_record.proofs.Ranks.{ranked_more}
 
 any_push : (block b : ℕ) (xs : List ℕ) → list_any (λ x. eqb x block) (xs ++ b ∷ []) ≡ (list_any (λ x. eqb x block) xs || eqb b block)
 any_push block b [] = go (eqb b block)

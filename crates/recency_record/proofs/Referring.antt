@@ -1,14 +1,13 @@
 -- One more reference to a record.
-use Rattle.std.proofs.Common.{◌≡◌, ◌≢◌, ℕ, zero, suc, ◌+◌, ◌-◌, ◌<◌, ◌≤◌, Bool, true, false, not, eqb, List, [], ◌∷◌, ◌++◌, length, map, take, get_or, set, filter, replicate, refl, sym, ap, ◌∙◌, inl, inr, arith, eq-eqb, true≢false, eqb-true, ◌^◌, ◌*◌, ⊎_elim, mod-lt, pow_pos, pow-add, div-lt_iff_lt-mul}
+use Rattle.std.proofs.Common.{◌≡◌, ◌≢◌, ℕ, zero, suc, ◌+◌, ◌-◌, ◌<◌, ◌≤◌, not, eqb, List, [], ◌∷◌, ◌++◌, length, map, take, get_or, set, replicate, refl, sym, ap, ◌∙◌, inl, inr, arith, eq-eqb, eqb-true, ◌^◌, ◌*◌, ⊎_elim, mod-lt, pow_pos, pow-add, div-lt_iff_lt-mul}
 use Rattle.std.specs.List.{range_with_len}
-use Rattle.std.proofs.lemmas.Bool.{cases_eq, cases_Bool, ne_eqb}
-use Rattle.std.proofs.lemmas.List.{map-append, length-append, length_push, length-map, length-take-le, length-take, get_or-set_same, get_or-set_other, length-set, get_or-map, length-replicate, get_or-replicate, get_or_default}
-use Rattle.std.proofs.lemmas.List.FromFn.{get_or-map-range_with_len, length-map-range_with_len}
+use Rattle.std.proofs.lemmas.Bool.{cases_eq, ne_eqb}
+use Rattle.std.proofs.lemmas.List.{map-append, length_push, length-map, length-take, get_or-set_same, get_or-set_other, length-set, length-replicate, get_or-replicate, get_or_default}
+use Rattle.std.proofs.lemmas.List.FromFn.{get_or-map-range_with_len}
 use Rattle.lru_plain.specs.Shape.{Shape, IsShape, sets_of, block_of, home_of}
 use Rattle.recency_record.specs.declared.entry.Entry.{Entry}
-use Rattle.recency_record.specs.Each.{Each}
 use Rattle.recency_record.specs.Uses.{last_uses, entries_of}
-use Rattle.recency_record.specs.Recency.{Recency, IsRecency, IsSet, IsEntry, IsRanked, others, used_set, referred, record_of, recent, blocks_of}
+use Rattle.recency_record.specs.Recency.{Recency, IsRecency, IsSet, IsEntry, others, used_set, referred, record_of, recent}
 use Rattle.recency_record.proofs.Eachs.{each_weaker, each_filter, each_take, filter_swap, filter_weaker}
 use Rattle.recency_record.proofs.Ranks.{ranked_filter, ranked_take, ranked_more, used_of_cut, other_test}
 use Rattle.recency_record.proofs.LastUses.{last_uses_more, last_uses_ranked, last_uses_none}

@@ -1,7 +1,7 @@
 -- Lists in one row, with the places where each begins.
 use Rattle.std.proofs.Common.{◌≡◌, ℕ, zero, suc, ◌+◌, ◌-◌, ◌*◌, ◌<◌, ◌≤◌, List, [], ◌∷◌, ◌++◌, length, map, take, drop, get_or, sum, refl, sym, ap, ◌∙◌, arith, append_assoc, drop-drop, append-nil, ◌^◌, mul-le-mul, suc-mul, add_comm}
 use Rattle.std.proofs.lemmas.List.{take_at, drop_at, length-append, take_more, map-append}
-use Rattle.std.proofs.lemmas.List.Sums.{sum_by-cons, sum_by_push, sum_by_more_le, sum_by-le}
+use Rattle.std.proofs.lemmas.List.Sums.{sum_by-cons, sum_by_more_le, sum_by-le}
 use Rattle.std.proofs.lemmas.List.Elements.{All-from_get_or}
 use Rattle.std.proofs.Math.Nat.{pow-le-pow_right}
 use Rattle.lru_plain.specs.Shape.{Shape, IsShape, sets_of}

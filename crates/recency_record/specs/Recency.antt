@@ -1,5 +1,5 @@
 -- What a record of last uses tells: for each set its most recent blocks, with the times of their last use.
-use Rattle.std.specs.Prelude.{◌≡◌, ◌≢◌, ℕ, ◌+◌, ◌-◌, ◌^◌, ◌<◌, ◌≤◌, ◌==◌, ◌↔◌, not, List, [], ◌∷◌, ◌++◌, length, map, take, filter, replicate, slice_index_or, slice_set, Contains}
+use Rattle.std.specs.Prelude.{◌≡◌, ◌≢◌, ℕ, ◌+◌, ◌-◌, ◌^◌, ◌<◌, ◌≤◌, ◌==◌, ◌↔◌, not, List, [], ◌∷◌, length, map, take, filter, slice_index_or, slice_set, Contains}
 use Rattle.std.specs.List.{range_with_len}
 use Rattle.lru_plain.specs.Shape.{Shape, IsShape, sets_of, block_of, home_of}
 use Rattle.recency_record.specs.declared.entry.Entry.{Entry}

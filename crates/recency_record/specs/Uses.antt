@@ -1,5 +1,5 @@
 -- When each block of a whole list of references was last used.
-use Rattle.std.specs.Prelude.{◌≡◌, ℕ, zero, suc, ◌+◌, ◌<◌, ◌==◌, nat_lt, Bool, not, ◌&&◌, if◌then◌else◌, Option, Some, List, [], ◌∷◌, length, drop, filter, slice_get, slice_index}
+use Rattle.std.specs.Prelude.{◌≡◌, ℕ, zero, suc, ◌+◌, ◌<◌, ◌==◌, nat_lt, Bool, not, ◌&&◌, if◌then◌else◌, Some, List, [], ◌∷◌, length, drop, filter, slice_get, slice_index}
 use Rattle.std.specs.List.{list_any}
 use Rattle.lru_plain.specs.Shape.{Shape, home_of}
 use Rattle.recency_record.specs.declared.entry.Entry.{Entry}

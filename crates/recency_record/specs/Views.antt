@@ -1,5 +1,5 @@
 -- The fields of a record and of a snapshot, seen as what they tell.
-use Rattle.std.specs.Prelude.{◌≡◌, ◌+◌, ◌<◌, ◌^◌, length}
+use Rattle.std.specs.Prelude.{◌≡◌, ◌+◌, length}
 use Rattle.lru_plain.specs.Shape.{sets_of}
 use Rattle.recency_record.specs.declared.lists.RecencyLists.TheInside.{Inside as ListsInside}
 use Rattle.recency_record.specs.declared.snapshot.Snapshot.TheInside.{Inside as SnapshotInside}

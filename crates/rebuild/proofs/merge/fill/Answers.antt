@@ -1,4 +1,4 @@
-use Rattle.std.proofs.Common.{◌≡◌, arith, ℕ, take, get_or, set}
+use Rattle.std.proofs.Common.{arith, take}
 use Rattle.rebuild.proofs.PlainSets.{blocks_in}
 use Rattle.rebuild.proofs.Filling.{not_before, set_so_far, fill_more}
 use Rattle.rebuild.proofs.merge.fill.Goals as goal

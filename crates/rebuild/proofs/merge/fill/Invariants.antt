@@ -1,5 +1,4 @@
 use Rattle.std.proofs.Common.{◌≡◌, set, map, take}
-use Rattle.lru_plain.specs.Cache.{Cache}
 use Rattle.rebuild.proofs.merge.fill.Given as goal
 
 abbrev pub invariant-loop-entry : goal.invariant-loop-entry

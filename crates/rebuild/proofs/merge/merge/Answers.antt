@@ -1,4 +1,4 @@
-use Rattle.std.proofs.Common.{◌≡◌, ◌≤◌, ◌+◌, ◌-◌, ◌*◌, ℕ, suc, arith, length, mul-le-mul, ◌∙◌, ap, get_or, []}
+use Rattle.std.proofs.Common.{◌≡◌, ◌≤◌, ◌+◌, ◌-◌, ◌*◌, ℕ, suc, arith, mul-le-mul, ◌∙◌, ap, get_or, []}
 use Rattle.rebuild.proofs.Turns.{turn_more}
 use Rattle.rebuild.proofs.merge.merge.Goals as goal
 

@@ -1,4 +1,4 @@
-use Rattle.std.proofs.Common.{◌≡◌, ap, ◌∙◌, List, take}
+use Rattle.std.proofs.Common.{ap, List, take}
 use Rattle.recency_record.specs.declared.entry.Entry.{Entry}
 use Rattle.rebuild.proofs.Placing.{inserted}
 use Rattle.rebuild.proofs.merge.put.Goals as goal

@@ -1,11 +1,8 @@
-use Rattle.std.proofs.Common.{◌≡◌, ◌≤◌, ◌<◌, ◌-◌, ◌++◌, [], ◌∙◌, ℕ, List, arith, ap, sym, map, length, replicate, get_or, take, set, refl}
-use Rattle.std.specs.List.{range_with_len}
-use Rattle.lru_plain.specs.Shape.{Shape, sets_of, home_of}
+use Rattle.std.proofs.Common.{◌≡◌, ◌∙◌, arith, ap, take, refl}
+use Rattle.lru_plain.specs.Shape.{sets_of}
 use Rattle.lru_plain.specs.Cache.{Cache}
-use Rattle.recency_record.specs.declared.entry.Entry.{Entry}
 use Rattle.recency_record.specs.Slots.{by_time}
 use Rattle.rebuild.specs.Merge.{united, merged_set, merged}
-use Rattle.rebuild.proofs.PlainSets.{blocks_in}
 use Rattle.rebuild.proofs.Apart.{merged_apart, merged_homes}
 use Rattle.rebuild.proofs.Filled.{filled, filled_length, still_empty, filled_more, all_filled}
 use Rattle.rebuild.proofs.rebuilding.fill_all.Goals as goal

@@ -1,6 +1,5 @@
 use Rattle.std.proofs.Common.{◌≡◌, ◌-◌, ◌++◌, [], map, replicate}
 use Rattle.std.specs.List.{range_with_len}
-use Rattle.lru_plain.specs.Cache.{Cache}
 use Rattle.rebuild.specs.Merge.{merged_set}
 use Rattle.rebuild.proofs.rebuilding.fill_all.Given as goal
 

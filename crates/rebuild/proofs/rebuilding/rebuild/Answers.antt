@@ -1,4 +1,4 @@
-use Rattle.std.proofs.Common.{◌≡◌, ℕ, List, ◌∙◌, ap, sym, refl}
+use Rattle.std.proofs.Common.{◌∙◌, ap, refl}
 use Rattle.lru_plain.specs.Shape.{Shape}
 use Rattle.lru_plain.specs.Cache.{Cache, plain}
 use Rattle.recency_record.specs.Recency.{Recency}

@@ -1,4 +1,3 @@
-use Rattle.std.proofs.Common.{◌≡◌, arith}
 use Rattle.recency_record.proofs.Rows.{sets_few}
 use Rattle.rebuild.proofs.Turns.{turns_value}
 use Rattle.rebuild.proofs.rebuilding.turns_of.Goals as goal

@@ -1,4 +1,4 @@
-use Rattle.std.proofs.Common.{◌≡◌, ℕ, ◌<◌, ◌≤◌, length, arith, sym, ◌∙◌}
+use Rattle.std.proofs.Common.{arith, sym, ◌∙◌}
 use Rattle.recency_record.proofs.FirstFaults.{set_found, set_passed, long_passed, sets_passed}
 use Rattle.recency_record.proofs.judging.first_fault.Goals as goal
 

@@ -1,6 +1,5 @@
-use Rattle.std.proofs.Common.{◌≡◌, ℕ, ◌<◌, ◌≤◌, length, arith, sym, ◌∙◌}
+use Rattle.std.proofs.Common.{arith, sym, ◌∙◌}
 use Rattle.recency_record.proofs.FirstFaults.{too_many, not_too_many, entry_found, entry_passed, entries_passed}
-use Rattle.recency_record.specs.Faults.{set_fault}
 use Rattle.recency_record.proofs.judging.set_fault.Goals as goal
 
 pub returns-then-entries-from : goal.returns-then-entries-from

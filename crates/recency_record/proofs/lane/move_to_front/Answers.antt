@@ -1,4 +1,4 @@
-use Rattle.std.proofs.Common.{◌≡◌, ℕ, length, arith}
+use Rattle.std.proofs.Common.{arith}
 use Rattle.recency_record.proofs.Shifts.{moved_here, one_further, carried_further, moved_past, shifted_more}
 use Rattle.recency_record.proofs.lane.move_to_front.Goals as goal
 

@@ -1,4 +1,4 @@
-use Rattle.std.proofs.Common.{◌≡◌, ◌≢◌, ℕ, ◌<◌, ◌∷◌, ◌++◌, get_or, take, drop}
+use Rattle.std.proofs.Common.{◌≡◌, ◌≢◌, ◌∷◌, ◌++◌, get_or, take, drop}
 use Rattle.recency_record.specs.Each.{Each}
 use Rattle.recency_record.proofs.lane.move_to_front.Given as goal
 

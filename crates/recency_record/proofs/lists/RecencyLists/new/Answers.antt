@@ -1,4 +1,4 @@
-use Rattle.std.proofs.Common.{◌≡◌, ℕ, arith, sym, ◌∙◌, refl}
+use Rattle.std.proofs.Common.{◌≡◌, arith, refl}
 use Rattle.lru_plain.specs.Shape.{sets_of}
 use Rattle.recency_record.proofs.Referring.{record_none}
 use Rattle.recency_record.proofs.lists.RecencyLists.new.Goals as goal

@@ -1,4 +1,4 @@
-use Rattle.std.proofs.Common.{ℕ, arith, ◌∙◌, ◌<◌, ◌^◌}
+use Rattle.std.proofs.Common.{arith, ◌∙◌, ◌<◌, ◌^◌}
 use Rattle.recency_record.specs.Views.{recency_of_lists}
 use Rattle.recency_record.proofs.Referring.{refer_keeps}
 use Rattle.recency_record.proofs.lists.RecencyLists.refer.Goals as goal

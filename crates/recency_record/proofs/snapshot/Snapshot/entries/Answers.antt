@@ -1,4 +1,4 @@
-use Rattle.std.proofs.Common.{◌≡◌, ◌<◌, ◌+◌, ◌-◌, ℕ, List, arith, length, get_or, take, drop, ◌∙◌, refl, sym}
+use Rattle.std.proofs.Common.{◌≡◌, ◌<◌, ◌+◌, ℕ, List, arith, length, get_or, ◌∙◌, sym}
 use Rattle.lru_plain.specs.Shape.{sets_of}
 use Rattle.std.proofs.lemmas.List.{get_or_default}
 use Rattle.recency_record.proofs.Rows.{part_at}

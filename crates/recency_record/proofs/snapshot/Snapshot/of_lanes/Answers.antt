@@ -1,6 +1,5 @@
-use Rattle.std.proofs.Common.{◌≡◌, ◌<◌, ◌≤◌, ◌+◌, ◌-◌, ◌++◌, [], ◌^◌, ℕ, List, arith, length, get_or, map, take, drop, sum, ◌∙◌, refl, sym, ap, take_all, vec_len}
+use Rattle.std.proofs.Common.{◌≡◌, ◌<◌, ◌≤◌, ◌++◌, [], ◌^◌, arith, length, get_or, map, take, ◌∙◌, refl, sym, ap, take_all}
 use Rattle.std.proofs.lemmas.List.{length-map, get_or_default}
-use Rattle.lru_plain.specs.Shape.{sets_of}
 use Rattle.recency_record.specs.declared.entry.Entry.{Entry}
 use Rattle.recency_record.specs.Parts.{starts_from, in_a_row, parts}
 use Rattle.recency_record.proofs.Rows.{sets_parts, row_starts, row_count, row_more, starts_more, row_more_short, row_length, sets_few}

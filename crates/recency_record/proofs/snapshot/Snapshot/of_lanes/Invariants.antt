@@ -1,4 +1,4 @@
-use Rattle.std.proofs.Common.{◌≡◌, ◌≤◌, ◌+◌, ◌*◌, [], ◌∷◌, map, length, take, vec_len, vec_capacity}
+use Rattle.std.proofs.Common.{◌≡◌, ◌≤◌, ◌+◌, map, length, take, vec_len, vec_capacity}
 use Rattle.recency_record.specs.Parts.{starts_from, in_a_row}
 use Rattle.recency_record.proofs.snapshot.Snapshot.of_lanes.Given as goal
 

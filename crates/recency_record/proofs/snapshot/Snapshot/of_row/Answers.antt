@@ -1,5 +1,4 @@
-use Rattle.std.proofs.Common.{◌≡◌, ◌<◌, ◌+◌, ◌-◌, ◌^◌, ℕ, List, arith, length, get_or, take, drop, sum, ◌∙◌, refl, sym, take_all, vec_len}
-use Rattle.lru_plain.specs.Shape.{sets_of}
+use Rattle.std.proofs.Common.{◌≡◌, ◌<◌, ◌+◌, ◌^◌, arith, get_or, take, sum, ◌∙◌, refl, sym, take_all}
 use Rattle.recency_record.specs.Parts.{starts_from, parts}
 use Rattle.recency_record.specs.Faults.{dealt}
 use Rattle.recency_record.proofs.Rows.{row_parts, row_starts, row_count, counts_more, counts_short, dealt_length}
