@@ -12,8 +12,6 @@ use Rattle.hierarchy.specs.Widths.{AreWidths}
 use Rattle.ruu_timing.specs.Laws.{IssuesAtFirst}
 use Rattle.ruu_timing.proofs.Slots.{issue_is_least, first_slot_is}
 use Rattle.ruu_timing.specs.Times.{back, time_of, issue_of, timed_of, timed_after, times, cycles}
-use Rattle.ruu_timing.specs.declared.flight.Flight.{Flight}
-use Rattle.ruu_timing.specs.Kept.{IsKept}
 use Rattle.ruu_timing.specs.Rows.{Each, AreTimed}
 use Rattle.ruu_timing.proofs.Bounds.{retired, retired_in_order, retired_soon, retired_wide}
 use Rattle.ruu_timing.proofs.Nexts.{next_timed, times_behind, length_after}
@@ -68,7 +66,7 @@ total_most rows k timed le =
     omega arith
 
 -- every trace has times within their bounds
-after_timed :
+pub after_timed :
     (w : Widths) (earlier : List Timed) (ms : List Marked) → AreWidths w → AreTimed earlier
     → length earlier + length ms ≤ 110000 → Each IsMarked ms → AreTimed (timed_after w earlier ms)
 unfolding timed_after
@@ -77,7 +75,7 @@ after_timed w earlier (m ∷ ms) widths timed few marks =
     after_timed w (timed_of w earlier m ∷ earlier) ms widths
     (next_timed w earlier m widths marks.0 timed (omega arith)) (omega arith) marks.1
 
-each_of : {X : Type 0} (P : X → Type 0) (xs : List X) → All P xs → Each P xs
+pub each_of : {X : Type 0} (P : X → Type 0) (xs : List X) → All P xs → Each P xs
 each_of P [] all = tt
 each_of P (x ∷ xs) all =
     (all 0 x (omega arith), each_of P xs (λ k d below. all (suc k) d (omega arith)))
@@ -116,35 +114,24 @@ last_before w ms skip within =
     let place : length ms - skip + 1 - 1 ≡ length (drop skip ms) + 0 = omega (arith, length-drop skip ms) in
     rw (place, whole, behind w (times w (take skip ms)) (drop skip ms) 0) refl
 
-pub kept_whole :
-    (w : Widths) (ms : List Marked) (n : ℕ) (f : Flight) → length ms ≤ n → IsKept w (times w (take n ms)) f → IsKept w (times w ms) f
-kept_whole w ms n f le kept = subst (λ l. IsKept w (times w l) f) (take_all n ms le) kept
-
-pub none_kept : (w : Widths) (ms : List Marked) (f : Flight) → IsKept w [] f → IsKept w (times w (take 0 ms)) f
-unfolding timed_after
-none_kept w ms f kept = kept
-
--- what a run up to `skip` and a run to the end show
-pub record AreCycles (w : Widths) (ms : List Marked) (skip before last : ℕ) : Type 0 where
-  pub order : before ≤ last
-  pub cycles : last - before ≡ cycles w ms skip
-  pub least : skip + 16 ≤ length ms → 1 ≤ last - before
-  pub most : length ms ≤ skip + 10000 → last - before < 2 ^ 26
+-- the cycles between two retirements
+pub record AreCycles (w : Widths) (ms : List Marked) (skip total : ℕ) : Type 0 where
+  pub cycles : total ≡ cycles w ms skip
+  pub least : skip + 16 ≤ length ms → 1 ≤ total
+  pub most : length ms ≤ skip + 10000 → total < 2 ^ 26
 
 pub cycles_between :
-    (w : Widths) (ms : List Marked) (skip n : ℕ) (f g : Flight) → skip < length ms → length ms ≤ n
-    → IsKept w (times w (take skip ms)) f → IsKept w (times w (take n ms)) g → AreCycles w ms skip f.retired g.retired
+    (w : Widths) (ms : List Marked) (skip before last : ℕ) → skip < length ms → AreTimed (times w ms)
+    → before ≡ retired_back (times w (take skip ms)) 1 → last ≡ retired_back (times w ms) 1
+    → AreCycles w ms skip (last - before)
 unfolding cycles
-cycles_between w ms skip n f g within end first second =
+cycles_between w ms skip before last within timed first second =
     let rows : List Timed = times w ms in
     let k : ℕ = length ms - skip + 1 in
-    let whole : IsKept w rows g = kept_whole w ms n g end second in
-    let early : f.retired ≡ retired_back rows k = first.retired ∙ last_before w ms skip within in
-    let late : g.retired ≡ retired_back rows 1 = whole.retired in
+    let early : before ≡ retired_back rows k = first ∙ last_before w ms skip within in
     record {
-      order = rw (early, late) (total_known rows k whole.timed (omega arith));
-      cycles = rw (early, late) refl;
+      cycles = rw (early, second) refl;
       least = λ far.
-          rw (early, late) (total_least rows k whole.timed (omega (arith, length_times w ms, within)) (omega arith));
-      most = λ near. rw (early, late) (total_most rows k whole.timed (omega arith));
+          rw (early, second) (total_least rows k timed (omega (arith, length_times w ms, within)) (omega arith));
+      most = λ near. rw (early, second) (total_most rows k timed (omega arith));
     }

@@ -1,8 +1,9 @@
 pub mod Class
-pub mod Issues
-pub mod Kept
 pub mod Laws
+pub mod Pipeline
 pub mod Rows
 pub mod Scalar
+pub mod Schedule
+pub mod Steps
 pub mod Times
 pub mod Trace

@@ -3,17 +3,18 @@
 #![tactic(auto)]
 
 mod class;
+mod cycles;
+mod dispatch;
 mod earlier;
-mod flight;
-mod issues;
-mod latest;
+mod fetch;
+mod issue;
 mod laws;
+mod pipeline;
 mod plain;
-mod row;
+mod retire;
 mod rows;
 mod ruu;
 mod scalar;
-mod tables;
 mod timed;
 mod trace;
 

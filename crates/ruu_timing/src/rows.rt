@@ -8,7 +8,6 @@ ghost use Rattle.ruu_timing.specs.Times.{back, time_of, next_fetch, fetch_of, di
 
 use crate::class::{accesses_memory, is_ecall, is_load};
 use crate::earlier::{access_before, back, first_slot, last_store, last_writer};
-use crate::latest::next_fetch;
 use crate::timed::Timed;
 use crate::trace::Trace;
 use hierarchy::{Marked, Widths};
@@ -19,6 +18,31 @@ use std::marker::Model;
 
 /// The most instructions of a trace.
 const MOST: usize = 110_000;
+
+/// When the instruction behind this may be fetched.
+fn next_fetch(w: &Widths, x: &Timed) -> u64
+    requires widths { AreWidths w.now }
+    requires small { (x.now.fetch ≤ 2 ^ 41) × (x.now.completion ≤ 2 ^ 41) × (x.now.retirement ≤ 2 ^ 41) }
+    ensures value { result ≡ next_fetch w.now x.now }
+    ensures bound { IsWithin (2 ^ 32) x.now → result ≤ 2 ^ 33 }
+{
+    let after_fetch = if x.mark.transferred {
+        x.fetch + 1
+    } else {
+        x.fetch
+    };
+    let after_wrong = if x.mark.mispredicted {
+        x.completion + u64::from(w.penalty)
+    } else {
+        0
+    };
+    let after_call = if is_ecall(x.mark.class) {
+        x.retirement + 1
+    } else {
+        0
+    };
+    after_fetch.max(after_wrong.max(after_call))
+}
 
 /// The instructions of a trace that are timed so far.
 #[derive(Debug, Drop)]

@@ -3,7 +3,7 @@ ghost use Rattle.hierarchy.specs.Widths.{AreWidths};
 ghost use Rattle.ruu_timing.specs.Trace.{IsTrace};
 ghost use Rattle.ruu_timing.specs.Times.{cycles};
 
-use crate::flight::Flight;
+use crate::pipeline::Pipeline;
 use crate::trace::Trace;
 use hierarchy::Widths;
 use smarts_base::NoMemory;
@@ -15,19 +15,19 @@ use std::marker::Model;
 #[derive(Debug, Drop)]
 pub struct Ruu {
     widths: Widths,
-    flight: Flight,
+    pipeline: Pipeline,
 }
 
 impl Model for Ruu {
     ghost use Rattle.hierarchy.specs.declared.widths.Widths.{Widths as WidthsValue};
     ghost use Rattle.hierarchy.specs.Widths.{AreWidths};
-    ghost use Rattle.ruu_timing.specs.Kept.{IsFlight};
+    ghost use Rattle.ruu_timing.specs.Pipeline.{IsSized};
 
     ghost Value = { WidthsValue };
 
     ghost view = { λ ruu. ruu.widths };
 
-    ghost invariant = { λ ruu. AreWidths ruu.widths × IsFlight ruu.widths ruu.flight };
+    ghost invariant = { λ ruu. AreWidths ruu.widths × IsSized ruu.widths ruu.pipeline };
 }
 
 impl Ruu {
@@ -37,7 +37,7 @@ impl Ruu {
     {
         Ok(Ruu {
             widths: *widths,
-            flight: Flight::new(alloc, widths)?,
+            pipeline: Pipeline::new(alloc, widths)?,
         })
     }
 
@@ -50,10 +50,7 @@ impl Ruu {
         ensures most { length (T.items trace.now) ≤ skip + 10000 → result < 2 ^ 26 }
         ensures widths { self.new ≡ self.old }
     {
-        self.flight.restart(&self.widths);
-        self.flight.run(&self.widths, trace, 0, skip);
-        let before = self.flight.retired;
-        self.flight.run(&self.widths, trace, skip, trace.len());
-        self.flight.retired - before
+        self.pipeline.clear(&self.widths);
+        self.pipeline.total(&self.widths, trace, skip)
     }
 }
