@@ -1,23 +1,20 @@
 -- The load and store queue: when a place in it is free, and which store a load finds there.
-use Rattle.std.proofs.Common.{◌≡◌, ◌⊎◌, ◌+◌, ◌-◌, ◌<◌, ◌≤◌, ℕ, zero, suc, nat_le, cond, Bool, true, false, List, ◌∷◌, length, refl, ap, arith, inl, inr}
+use Rattle.std.proofs.Common.{Bool, List, ap, arith, cond, false, inl, inr, length, nat_le, refl, suc, true, zero, ℕ, ◌≡◌, ◌⊎◌, ◌+◌, ◌-◌, ◌<◌, ◌≤◌, ◌∷◌, if◌then◌else◌}
+use Rattle.std.proofs.lemmas.Bool.{and_parts, cases_lt, false≢true, le-leb, lt-leb}
 use Rattle.std.specs.List.{find}
-use Rattle.std.proofs.lemmas.Bool.{cases_lt, le-leb, lt-leb, false≢true, and_parts}
-use Rattle.rv_isa.specs.declared.roles.Class.{Class}
-use Rattle.rv_isa.specs.declared.roles.Class.TheVariants.{Alu, Mul, Div, Load, Store, Control, Ecall}
 use Rattle.hierarchy.specs.Marked.{accesses_memory}
-use Rattle.hierarchy.specs.declared.widths.Widths.{Widths}
-use Rattle.ruu_timing.specs.declared.timed.Timed.{Timed}
-use Rattle.ruu_timing.specs.declared.pipeline.Access.{Access}
+use Rattle.rv_isa.specs.declared.roles.Class.{Class}
+use Rattle.rv_isa.specs.declared.roles.Class.TheVariants.{Alu, Control, Div, Ecall, Load, Mul, Store}
 use Rattle.ruu_timing.specs.Class.{is_store}
-use Rattle.ruu_timing.specs.Pipeline.{IsCount, IsSource, accesses_from, access_of}
-use Rattle.ruu_timing.specs.Schedule.{IsSchedule, access_ago, last_store, completion_of}
-use Rattle.ruu_timing.specs.Steps.{access_stores, number_in}
+use Rattle.ruu_timing.specs.Pipeline.{IsSource, access_of, accesses_from}
+use Rattle.ruu_timing.specs.Rows.{Each}
+use Rattle.ruu_timing.specs.Schedule.{access_ago, completion_of, last_store}
+use Rattle.ruu_timing.specs.Dispatch.{access_stores, number_in}
 use Rattle.ruu_timing.specs.Times.{accesses, stores_to}
-use Rattle.ruu_timing.proofs.Rising.{in_order}
-
-pub either_most : (b : Bool) (x y n : ℕ) → x ≤ n → y ≤ n → cond b x y ≤ n
-either_most true x y n first second = first
-either_most false x y n first second = second
+use Rattle.ruu_timing.specs.declared.pipeline.Access.{Access}
+use Rattle.ruu_timing.specs.declared.timed.Timed.{Timed}
+use Rattle.ruu_timing.proofs.Awaited.{last_store_le}
+use Rattle.ruu_timing.proofs.Choices.{either_le}
 
 -- all of them are retired
 access_early : (x : ℕ → Timed) (t i k : ℕ) → ((j : ℕ) → j < i → (x j).retirement ≤ t) → access_ago x i k ≤ t
@@ -25,8 +22,8 @@ access_early x t zero k done = omega arith
 access_early x t (suc i) k done =
     let here : (x i).retirement ≤ t = done i (omega arith) in
     let earlier : (l : ℕ) → access_ago x i l ≤ t = λ l. access_early x t i l (λ j below. done j (omega arith)) in
-    either_most (accesses (x i)) (cond (nat_le k 1) (x i).retirement (access_ago x i (k - 1))) (access_ago x i k) t
-    (either_most (nat_le k 1) (x i).retirement (access_ago x i (k - 1)) t here (earlier (k - 1))) (earlier k)
+    either_le (accesses (x i)) (cond (nat_le k 1) (x i).retirement (access_ago x i (k - 1))) (access_ago x i k) t
+    (either_le (nat_le k 1) (x i).retirement (access_ago x i (k - 1)) t here (earlier (k - 1))) (earlier k)
 
 done_more :
     (b : Bool) (xs : List Access) (a : Access) (lsq retirement t : ℕ) (earlier : ℕ → ℕ)
@@ -111,20 +108,6 @@ finds_store x word from (suc k) =
     (last_store x word (from + k)) (suc (from + k)) refl
     (λ is. store_accesses (x (from + k)).mark.class (and_parts _ _ is).0) refl (finds_store x word from k))
 
-last_store_within : (x : ℕ → Timed) (word i : ℕ) → last_store x word i ≤ i
-last_store_within x word zero = omega arith
-last_store_within x word (suc i) =
-    let h : last_store x word i ≤ i = last_store_within x word i in
-    either_most (stores_to word (x i)) (suc i) (last_store x word i) (suc i) (omega arith) (omega arith)
-
--- those that are retired have completed
-pub completed :
-    (w : Widths) (n : ℕ) (x : ℕ → Timed) (count t : ℕ) → IsSchedule w n x
-    → IsCount n (λ i. (x i).retirement) count (t + 1) (t + 1) → (number : ℕ) → number ≤ count → completion_of x number ≤ t
-completed w n x count t is retired zero le = omega arith
-completed w n x count t is retired (suc i) le =
-    omega (arith, retired.before i (omega arith), (in_order w n x i is (omega (arith, retired.within))).retirement)
-
 source_found :
     (x : ℕ → Timed) (by : ℕ) (xs : List Access) (test : Access → Bool) (before last : ℕ)
     → completion_of x before ≤ by → Finds xs test before last → IsSource x by last (number_in (find test xs))
@@ -136,4 +119,15 @@ pub store_source :
     → IsSource x by (last_store x word (from + k)) (number_in (find (λ access. access_stores word access) (accesses_from x from k)))
 store_source x by word from k early =
     source_found x by (accesses_from x from k) (λ access. access_stores word access) (last_store x word from)
-    (last_store x word (from + k)) (early (last_store x word from) (last_store_within x word from)) (finds_store x word from k)
+    (last_store x word (from + k)) (early (last_store x word from) (last_store_le x word from)) (finds_store x word from k)
+
+-- their numbers are no larger than how many there are
+pub accesses_le :
+    (x : ℕ → Timed) (from k most : ℕ) → from + k ≤ most → Each (λ access. access.number ≤ most) (accesses_from x from k)
+accesses_le x from zero most le = tt
+accesses_le x from (suc k) most le =
+    let rest : Each (λ access. access.number ≤ most) (accesses_from x from k) = accesses_le x from k most (omega arith) in
+    elim (accesses (x (from + k))) as (λ b. Each (λ access. access.number ≤ most) (if b then access_of (suc (from + k)) (x (from + k)) ∷ accesses_from x from k else accesses_from x from k)) [
+      | true ↦ (omega arith, rest)
+      | false ↦ rest
+    ]

@@ -1,36 +1,11 @@
 -- Every time of a trace is within its bound.
-use Rattle.std.proofs.Common.{◌≡◌, ◌+◌, ◌*◌, ◌^◌, ◌<◌, ◌≤◌, ℕ, Bool, true, false, zero, suc, cond, List, [], ◌∷◌, length, max, Option, Some, None, refl, sym, arith, Bor, option_copied, subst}
+use Rattle.std.proofs.Common.{Bor, List, Option, arith, length, option_copied, refl, suc, zero, ℕ, ◌≡◌, ◌+◌, ◌*◌, ◌^◌, ◌<◌, ◌≤◌, [], ◌∷◌}
+use Rattle.std.specs.List.{slice_get}
 use Rattle.std.specs.Option.{IfSome}
-use Rattle.std.specs.List.{slice_get, filter, find}
-use Rattle.ruu_timing.specs.declared.timed.Timed.{Timed}
+use Rattle.ruu_timing.specs.Rows.{AreInOrder, AreTimed, Each, IsWithin, last_of}
 use Rattle.ruu_timing.specs.Times.{time_of}
-use Rattle.ruu_timing.specs.Rows.{Each, IsWithin, AreTimed, AreInOrder, last_of}
-
--- what holds of each holds of those that are found, picked or left
-pub each_get : {X : Type 0} (P : X → Type 0) (xs : List X) (i : ℕ) → Each P xs → IfSome (slice_get xs i) P
-each_get P [] i each = tt
-each_get P (x ∷ xs) zero each = each.0
-each_get P (x ∷ xs) (suc i) each = each_get P xs i each.1
-
-pub each_filter : {X : Type 0} (P : X → Type 0) (test : X → Bool) (xs : List X) → Each P xs → Each P (filter test xs)
-each_filter P test [] each = tt
-each_filter P test (x ∷ xs) each =
-    elim (test x) as (λ b. Each P (cond b (x ∷ filter test xs) (filter test xs))) [
-      | true ↦ (each.0, each_filter P test xs each.1)
-      | false ↦ each_filter P test xs each.1
-    ]
-
-pub each_find : {X : Type 0} (P : X → Type 0) (test : X → Bool) (xs : List X) → Each P xs → IfSome (find test xs) P
-each_find P test [] each = tt
-each_find P test (x ∷ xs) each =
-    elim (test x) as (λ b. IfSome (cond b (Some x) (find test xs)) P) [
-      | true ↦ each.0
-      | false ↦ each_find P test xs each.1
-    ]
-
-pub each_more : {X : Type 0} (P Q : X → Type 0) → ((x : X) → P x → Q x) → (xs : List X) → Each P xs → Each Q xs
-each_more P Q more [] each = tt
-each_more P Q more (x ∷ xs) each = (more x each.0, each_more P Q more xs each.1)
+use Rattle.ruu_timing.specs.declared.timed.Timed.{Timed}
+use Rattle.ruu_timing.proofs.Elements.{each_get, each_more, lent}
 
 pub within_more : (m n : ℕ) → m ≤ n → (x : Timed) → IsWithin m x → IsWithin n x
 within_more m n le x within = record {
@@ -55,15 +30,6 @@ retired_soon (x ∷ xs) zero order = omega arith
 retired_soon (x ∷ xs) (suc i) order =
     let h : retired xs 0 ≤ retired xs i + 4096 * i = retired_soon xs i order.1 in
     omega (arith, order.0.soon, first_retired xs)
-
-pub retired_near :
-    (earlier : List Timed) (i : ℕ) → AreInOrder earlier
-    → retired earlier 0 ≤ max (retired earlier i) (time_of (λ x. x.dispatch) (slice_get earlier 0)) + 1220 * i
-retired_near [] i order = omega arith
-retired_near (x ∷ xs) zero order = omega arith
-retired_near (x ∷ xs) (suc i) order =
-    let h : retired xs 0 ≤ max (retired xs i) (time_of (λ y. y.dispatch) (slice_get xs 0)) + 1220 * i = retired_near xs i order.1 in
-    omega (arith, order.0.near, order.0.order, first_retired xs)
 
 pub retired_in_order : (earlier : List Timed) (i j : ℕ) → AreInOrder earlier → i ≤ j → retired earlier j ≤ retired earlier i
 retired_in_order [] i j order le = omega arith
@@ -105,13 +71,6 @@ small earlier timed =
 
 pub small_back : (earlier : List Timed) (i : ℕ) → AreTimed earlier → IfSome (slice_get earlier i) (IsWithin (2 ^ 32))
 small_back earlier i timed = each_get (IsWithin (2 ^ 32)) earlier i (small earlier timed)
-
--- the same of one that is lent
-pub lent :
-    {X : Type 0} (P : X → Type 0) (r : Option (Bor X)) (o : Option X) → option_copied r ≡ o → IfSome o P
-    → IfSome r (λ x. P x.now)
-lent P None o e there = tt
-lent {X = X} P (Some x) o e there = let Q : Option X → Type 0 = λ q. IfSome q P in subst Q (sym e) there
 
 pub lent_small :
     (earlier : List Timed) (r : Option (Bor Timed)) (o : Option Timed) → option_copied r ≡ o

@@ -1,6 +1,6 @@
 -- Counts of instructions by one of their times, and what they say of the one some places before another.
-use Rattle.std.proofs.Common.{◌≡◌, ◌+◌, ◌-◌, ◌<◌, ◌≤◌, ℕ, zero, suc, refl, arith, inl, inr}
-use Rattle.std.proofs.lemmas.Bool.{cases_lt, lt-ltb, le-ltb}
+use Rattle.std.proofs.Common.{arith, inl, inr, refl, suc, zero, ℕ, ◌≡◌, ◌+◌, ◌-◌, ◌<◌, ◌≤◌}
+use Rattle.std.proofs.lemmas.Bool.{cases_lt, le-ltb, lt-ltb}
 use Rattle.ruu_timing.specs.Pipeline.{IsCount}
 use Rattle.ruu_timing.specs.Schedule.{ago}
 
@@ -41,6 +41,13 @@ counting n time count t is = record {
   within = is.within;
   done = λ i below. omega (arith, is.before i below);
 }
+
+-- the one before the next has come
+pub last_done : (n : ℕ) (time : ℕ → ℕ) (start count t : ℕ) → IsCounting n time start count t → ago time count 1 ≤ t
+last_done n time start zero t counting = omega arith
+last_done n time start (suc i) t counting =
+    let e : suc i - 1 ≡ i = omega arith in
+    rw (there time (suc i) 1 (omega arith), e) (counting.done i (omega arith))
 
 -- fewer than the width have come in this cycle
 pub width_done :

@@ -1,17 +1,18 @@
 -- Whether the next instruction of the fetch queue is dispatched in a cycle.
-use Rattle.std.proofs.Common.{◌≡◌, ◌+◌, ◌-◌, ◌<◌, ◌≤◌, ◌==◌, ◌&&◌, ◌||◌, ℕ, zero, suc, nat_lt, cond, Bool, true, false, not, max, length, refl, sym, ap, subst, arith, inl, inr}
-use Rattle.std.proofs.lemmas.Bool.{ltb-true, ltb-false, eqb-true, eqb-false, and_parts, and_cases, true≢false}
+use Rattle.std.proofs.Common.{Bool, ap, arith, cond, false, inl, inr, length, max, nat_lt, not, refl, subst, suc, sym, true, zero, ℕ, ◌≡◌, ◌+◌, ◌<◌, ◌≤◌, ◌==◌, ◌&&◌, ◌||◌}
+use Rattle.std.proofs.lemmas.Bool.{and_cases, and_parts, eqb-false, eqb-true, ltb-false, ltb-true, true≢false}
 use Rattle.hierarchy.specs.Marked.{accesses_memory}
 use Rattle.hierarchy.specs.Widths.{AreWidths}
 use Rattle.hierarchy.specs.declared.widths.Widths.{Widths}
-use Rattle.ruu_timing.specs.declared.timed.Timed.{Timed}
-use Rattle.ruu_timing.specs.declared.pipeline.Pipeline.{Pipeline}
 use Rattle.ruu_timing.specs.Class.{is_ecall}
 use Rattle.ruu_timing.specs.Pipeline.{IsCount, IsHeld, accesses_from}
-use Rattle.ruu_timing.specs.Schedule.{IsSchedule, ago, access_ago, dispatch_at}
-use Rattle.ruu_timing.specs.Steps.{has_place_for}
+use Rattle.ruu_timing.specs.Schedule.{IsSchedule, access_ago, ago, dispatch_at}
+use Rattle.ruu_timing.specs.Dispatch.{has_place_for}
+use Rattle.ruu_timing.specs.Times.{accesses}
+use Rattle.ruu_timing.specs.declared.pipeline.Pipeline.{Pipeline}
+use Rattle.ruu_timing.specs.declared.timed.Timed.{Timed}
 use Rattle.ruu_timing.proofs.Accesses.{access_done, access_waits}
-use Rattle.ruu_timing.proofs.Counts.{ago_done, ago_waits, IsCounting, there, width_done, width_waits}
+use Rattle.ruu_timing.proofs.Counts.{IsCounting, ago_done, ago_waits, last_done, width_done, width_waits}
 
 -- the test for a place, by the sizes and widths
 abbrev fits : Bool → Bool → ℕ → ℕ → ℕ → ℕ → Bool
@@ -114,12 +115,6 @@ place_waits w n x v t p widths held retired is =
     (λ full. ago_waits n time p.retired t i w.ruu retired (omega (arith, widths.ruu.0)) within (omega (arith, held.count)))
     queue
     (λ some. ago_waits n time p.retired t i 1 retired (omega arith) within (omega (arith, held.count)))
-
-last_done : (n : ℕ) (time : ℕ → ℕ) (start count t : ℕ) → IsCounting n time start count t → ago time count 1 ≤ t
-last_done n time start zero t counting = omega arith
-last_done n time start (suc i) t counting =
-    let e : suc i - 1 ≡ i = omega arith in
-    rw (there time (suc i) 1 (omega arith), e) (counting.done i (omega arith))
 
 -- there is a place, and fewer than the width came in this cycle
 pub dispatches_now :

@@ -1,20 +1,21 @@
 -- The dispatches of a cycle, one after the other.
-use Rattle.std.proofs.Common.{◌≡◌, ◌+◌, ◌-◌, ◌<◌, ◌≤◌, ℕ, suc, true, false, Option, Some, None, refl, sym, ◌∙◌, ap, subst, arith, inl, inr}
-use Rattle.std.specs.Option.{IfSome}
-use Rattle.std.specs.List.{slice_get}
+use Rattle.std.proofs.Common.{None, Option, Some, arith, false, inl, inr, refl, subst, suc, sym, true, ℕ, ◌≡◌, ◌+◌, ◌-◌, ◌<◌, ◌≤◌, ◌∙◌}
 use Rattle.std.proofs.lemmas.Bool.{cases_lt}
+use Rattle.std.specs.List.{slice_get}
+use Rattle.std.specs.Option.{IfSome}
 use Rattle.hierarchy.specs.Widths.{AreWidths}
 use Rattle.hierarchy.specs.declared.marked.Marked.{Marked}
 use Rattle.hierarchy.specs.declared.widths.Widths.{Widths}
-use Rattle.ruu_timing.specs.declared.timed.Timed.{Timed}
-use Rattle.ruu_timing.specs.declared.pipeline.Pipeline.{Pipeline}
-use Rattle.ruu_timing.specs.Pipeline.{IsCount, IsDone, IsHeld, marks_from}
+use Rattle.ruu_timing.specs.Pipeline.{IsCount, IsDone, IsHeld}
 use Rattle.ruu_timing.specs.Schedule.{IsSchedule, begin_at}
-use Rattle.ruu_timing.specs.Steps.{Dispatches, HasDispatched, HasEntered, has_place_for}
-use Rattle.ruu_timing.proofs.Counts.{IsCounting, counting, counting_more, counted}
-use Rattle.ruu_timing.proofs.DispatchTimes.{dispatches_now, dispatch_waits, dispatch_full}
-use Rattle.ruu_timing.proofs.Entering.{IsNext, entered_held, marks_front, place_parts, popped}
-use Rattle.ruu_timing.proofs.Rising.{in_order, dispatch_rises}
+use Rattle.ruu_timing.specs.Dispatch.{Dispatches, HasDispatched, HasEntered, has_place_for}
+use Rattle.ruu_timing.specs.declared.pipeline.Pipeline.{Pipeline}
+use Rattle.ruu_timing.specs.declared.timed.Timed.{Timed}
+use Rattle.ruu_timing.proofs.Counts.{IsCounting, counted, counting_more}
+use Rattle.ruu_timing.proofs.DispatchTimes.{dispatch_full, dispatch_waits, dispatches_now}
+use Rattle.ruu_timing.proofs.Entering.{IsNext, entered_held, place_parts, popped}
+use Rattle.ruu_timing.proofs.FetchQueue.{held_front, marks_front}
+use Rattle.ruu_timing.proofs.Rising.{dispatch_rises, in_order}
 
 -- so many instructions came in this cycle, from a number on
 pub record IsDispatching (w : Widths) (n : ℕ) (x : ℕ → Timed) (start came : ℕ) (p : Pipeline) : Type 0 where
@@ -24,18 +25,6 @@ pub record IsDispatching (w : Widths) (n : ℕ) (x : ℕ → Timed) (start came 
   pub count : p.dispatched ≡ start + came
   pub fetched : IsCount n (λ i. (x i).fetch) p.fetched p.cycle p.cycle
   pub begin : p.arriving ≡ None → p.fetched < n → p.cycle ≤ begin_at w x p.fetched
-
-pub dispatching :
-    (w : Widths) (n : ℕ) (x : ℕ → Timed) (p : Pipeline) → IsDone w n x (p.cycle + 1) (p.cycle + 1) p.cycle p.cycle p
-    → IsDispatching w n x p.dispatched 0 p
-dispatching w n x p done = record {
-  held = done.held;
-  retired = done.retired;
-  counting = counting n (λ i. (x i).dispatch) p.dispatched p.cycle done.dispatched;
-  count = omega arith;
-  fetched = done.fetched;
-  begin = done.begin;
-}
 
 dispatched :
     (w : Widths) (n : ℕ) (x : ℕ → Timed) (start came : ℕ) (p : Pipeline) → IsSchedule w n x
@@ -57,11 +46,6 @@ pub dispatched_full :
 dispatched_full w n x start came p widths is so_far full =
     dispatched w n x start came p is so_far
     (λ below. dispatch_full w n x p.cycle start p.dispatched widths is so_far.counting (omega (arith, so_far.count)) below)
-
-held_front :
-    (w : Widths) (n : ℕ) (x : ℕ → Timed) (v : ℕ) (p : Pipeline) → IsHeld w n x v p
-    → slice_get p.queue.items 0 ≡ slice_get (marks_from x p.dispatched (p.fetched - p.dispatched)) 0
-held_front w n x v p held = ap (λ b. slice_get b.items 0) held.queue
 
 -- there is none in the fetch queue, or it has no place
 front_waits :

@@ -1,74 +1,27 @@
 -- What the processor holds when one more instruction enters the register update unit.
-use Rattle.std.proofs.Common.{◌≡◌, ◌+◌, ◌-◌, ◌<◌, ◌≤◌, ◌||◌, ℕ, zero, suc, nat_le, nat_lt, cond, Bool, true, false, not, List, [], ◌∷◌, ◌++◌, length, take, drop, get_or, Option, Some, None, refl, sym, ◌∙◌, ap, subst, arith, inl, inr}
+use Rattle.std.proofs.Common.{Bool, List, None, Option, Some, ap, arith, cond, drop, false, get_or, inl, inr, length, nat_lt, not, refl, subst, suc, sym, take, true, ℕ, ◌≡◌, ◌+◌, ◌-◌, ◌<◌, ◌≤◌, ◌||◌, ◌∷◌, ◌∙◌}
+use Rattle.std.proofs.lemmas.Bool.{and_parts, cases_eq, cases_lt, eq-eqb, ltb-true, ne_eqb}
+use Rattle.std.proofs.lemmas.List.{get_or-set_other, get_or-set_same, length-set, take_all}
 use Rattle.std.specs.Option.{IfSome}
-use Rattle.std.specs.List.{slice_get}
-use Rattle.std.proofs.lemmas.Bool.{cases_lt, cases_eq, eq-eqb, ne_eqb, ltb-true, le-leb, and_parts}
-use Rattle.std.proofs.lemmas.Option.{same_Some, none-some}
-use Rattle.std.proofs.lemmas.List.{take_all, get_or-set_same, get_or-set_other, length-set}
 use Rattle.circular_buffer.specs.Buffer.{Buffer, buffer}
 use Rattle.hierarchy.specs.Marked.{accesses_memory}
-use Rattle.hierarchy.specs.declared.marked.Marked.{Marked}
 use Rattle.hierarchy.specs.declared.widths.Widths.{Widths}
 use Rattle.rv_isa.specs.declared.roles.Class.{Class}
-use Rattle.ruu_timing.specs.declared.timed.Timed.{Timed}
+use Rattle.ruu_timing.specs.Class.{is_load}
+use Rattle.ruu_timing.specs.Pipeline.{IsArriving, IsCount, IsHeld, IsSlot, IsSource, Placed, access_of, accesses_from}
+use Rattle.ruu_timing.specs.Schedule.{IsSchedule, completion_of, last_writer, store_of, writer_of}
+use Rattle.ruu_timing.specs.Dispatch.{HasEntered, IsRegister, has_place_for, slot_of, source_in, store_in, written_by}
+use Rattle.ruu_timing.specs.Times.{is_given}
 use Rattle.ruu_timing.specs.declared.pipeline.Access.{Access}
 use Rattle.ruu_timing.specs.declared.pipeline.Pipeline.{Pipeline}
 use Rattle.ruu_timing.specs.declared.pipeline.Slot.{Slot}
-use Rattle.ruu_timing.specs.Class.{is_load}
-use Rattle.ruu_timing.specs.Pipeline.{IsArriving, IsCount, IsHeld, IsSlot, IsSource, Placed, accesses_from, access_of, marks_from, unissued}
-use Rattle.ruu_timing.specs.Schedule.{IsSchedule, completion_of, last_writer, store_of, writer_of}
-use Rattle.ruu_timing.specs.Steps.{HasEntered, IsRegister, has_place_for, slot_of, source_in, store_in, written_by}
-use Rattle.ruu_timing.specs.Times.{is_given}
-use Rattle.ruu_timing.proofs.Accesses.{completed, store_source}
+use Rattle.ruu_timing.specs.declared.timed.Timed.{Timed}
+use Rattle.ruu_timing.proofs.Accesses.{store_source}
+use Rattle.ruu_timing.proofs.Awaited.{completed}
 use Rattle.ruu_timing.proofs.DispatchTimes.{held_accesses}
-use Rattle.ruu_timing.proofs.Places.{placed_more}
-
--- the fetch queue
-pub length_marks : (x : ℕ → Timed) (from k : ℕ) → length (marks_from x from k) ≡ k
-length_marks x from zero = refl
-length_marks x from (suc k) = ap suc (length_marks x (suc from) k)
-
-marks_next : (x : ℕ → Timed) (from k : ℕ) → 0 < k → drop 1 (marks_from x from k) ≡ marks_from x (from + 1) (k - 1)
-marks_next x from zero some = absurd (omega arith)
-marks_next x from (suc k) some =
-    let e : from + 1 ≡ suc from = omega arith in
-    let f : suc k - 1 ≡ k = omega arith in
-    rw (e, f) refl
-
-pub marks_front :
-    (x : ℕ → Timed) (from k : ℕ) (m : Marked) → slice_get (marks_from x from k) 0 ≡ Some m → 0 < k × ((x from).mark ≡ m)
-marks_front x from zero m front = absurd (none-some m front)
-marks_front x from (suc k) m front = (omega arith, same_Some (x from).mark m front)
-
--- the numbers of those that wait
-append_if :
-    (b : Bool) (first : ℕ) (xs : List ℕ) (last : ℕ) (ys : List ℕ) → ys ≡ xs ++ last ∷ []
-    → cond b (first ∷ ys) ys ≡ cond b (first ∷ xs) xs ++ last ∷ []
-append_if true first xs last ys e = ap (λ (l : List ℕ). first ∷ l) e
-append_if false first xs last ys e = e
-
-unissued_more :
-    (x : ℕ → Timed) (v from k : ℕ) → v ≤ (x (from + k)).issue
-    → unissued x v from (suc k) ≡ unissued x v from k ++ (from + k + 1) ∷ []
-unissued_more x v from zero late =
-    let e : from + 0 ≡ from = omega arith in
-    let f : from + 0 + 1 ≡ suc from = omega arith in
-    let h : v ≤ (x from).issue = rw e at late in
-    rw (le-leb v (x from).issue h, f) refl
-unissued_more x v from (suc k) late =
-    let e : from + suc k ≡ suc from + k = omega arith in
-    let h : v ≤ (x (suc from + k)).issue = rw e at late in
-    rw e
-    (append_if (nat_le v (x from).issue) (suc from) (unissued x v (suc from) k) (suc from + k + 1)
-    (unissued x v (suc from) (suc k)) (unissued_more x v (suc from) k h))
-
-waiting_next :
-    (x : ℕ → Timed) (v i : ℕ) → v ≤ (x i).issue → unissued x v 0 (i + 1) ≡ unissued x v 0 i ++ (i + 1) ∷ []
-waiting_next x v i late =
-    let e : i + 1 ≡ suc i = omega arith in
-    let f : 0 + i ≡ i = omega arith in
-    let h : v ≤ (x (0 + i)).issue = rw f late in
-    rw e (unissued_more x v 0 i h ∙ rw (f, e) refl)
+use Rattle.ruu_timing.proofs.FetchQueue.{arriving_kept, marks_next}
+use Rattle.ruu_timing.proofs.Places.{placed_more, slot_still}
+use Rattle.ruu_timing.proofs.Unissued.{waiting_next}
 
 -- the table of writers
 pub length_written : (writers : List ℕ) (dest : Option ℕ) (number : ℕ) → length (written_by writers dest number) ≡ length writers
@@ -133,20 +86,6 @@ place_parts w p class is =
       queue = λ e. alone (accesses_memory class) rest.0 e;
     }
 
--- the register update unit
-slot_sooner : (x : ℕ → Timed) (v u sooner i : ℕ) (slot : Slot) → sooner ≤ u → IsSlot x v u i slot → IsSlot x v sooner i slot
-slot_sooner x v u sooner i slot le is = record {
-  class = is.class;
-  latency = is.latency;
-  first = is.first;
-  second = is.second;
-  store = is.store;
-  after = is.after;
-  most = is.most;
-  issued = is.issued;
-  waits = λ late. omega (arith, is.waits late);
-}
-
 -- the next instruction, when it is dispatched in this cycle and there is a place for it
 pub record IsNext (w : Widths) (n : ℕ) (x : ℕ → Timed) (p : Pipeline) : Type 0 where
   pub held : IsHeld w n x (p.cycle + 1) p
@@ -156,6 +95,7 @@ pub record IsNext (w : Widths) (n : ℕ) (x : ℕ → Timed) (p : Pipeline) : Ty
   pub dispatch : (x p.dispatched).dispatch ≡ p.cycle
   pub issue : p.cycle + 1 ≤ (x p.dispatched).issue
 
+-- the register update unit
 next_slot :
     (w : Widths) (n : ℕ) (x : ℕ → Timed) (p : Pipeline) (u : ℕ) → IsSchedule w n x → IsNext w n x p → u ≤ p.cycle + 1
     → IsRegister (x p.dispatched).mark.first → IsRegister (x p.dispatched).mark.second
@@ -191,16 +131,6 @@ unit_next w n x p q next entered =
     let whole : take w.ruu (slot ∷ p.unit.items) ≡ slot ∷ p.unit.items = take_all w.ruu (slot ∷ p.unit.items) small in
     entered.unit ∙ rw (next.held.capacity, whole) refl
 
-arriving_kept :
-    (w : Widths) (n : ℕ) (x : ℕ → Timed) (p q : Pipeline) (at : Option ℕ) → q.fetched ≡ p.fetched
-    → p.dispatched ≤ q.dispatched → IfSome at (IsArriving w n x p) → IfSome at (IsArriving w n x q)
-arriving_kept w n x p q None same more is = tt
-arriving_kept w n x p q (Some at) same more is = record {
-  some = omega (arith, is.some);
-  fetch = rw same is.fetch;
-  room = omega (arith, is.room);
-}
-
 pub entered_held :
     (w : Widths) (n : ℕ) (x : ℕ → Timed) (p q : Pipeline) → IsSchedule w n x → IsNext w n x p
     → HasEntered (x p.dispatched).mark (popped p) q → IsHeld w n x (p.cycle + 1) q
@@ -222,7 +152,7 @@ entered_held w n x p q is next entered =
     let here : IsSlot x v q.wake i slot = next_slot w n x p q.wake is next now entered.first entered.second in
     let others : Placed (IsSlot x v q.wake) p.retired p.unit.items =
     placed_more (IsSlot x v p.wake) (IsSlot x v q.wake) p.retired (p.retired + k)
-    (λ j s from to old. slot_sooner x v p.wake q.wake j s sooner old) p.unit.items (omega arith) held.unit in
+    (λ j s from to old. slot_still x v p.wake v q.wake j s old old.issued (λ late. omega (arith, old.waits late, sooner))) p.unit.items (omega arith) held.unit in
     let accesses : q.accesses ≡ buffer (cond (accesses_memory (x i).mark.class) (access_of (suc i) (x i) ∷ accesses_from x p.retired k) (accesses_from x p.retired k)) w.lsq =
     access_next (accesses_memory (x i).mark.class) p.accesses q.accesses (accesses_from x p.retired k) (access_of (suc i) (x i)) w.lsq
     held.accesses next.place.queue (rw e at entered.accesses) in

@@ -1,11 +1,12 @@
 -- The register update unit where another issue is known of one instruction.
-use Rattle.std.proofs.Common.{◌≡◌, ◌≢◌, ◌+◌, ◌<◌, ℕ, zero, suc, List, [], ◌∷◌, length, set, Some, None, refl, sym, ap, subst, arith}
-use Rattle.std.proofs.lemmas.Option.{same_Some, none-some}
+use Rattle.std.proofs.Common.{List, None, Some, ap, arith, length, refl, set, subst, suc, sym, zero, ℕ, ◌≡◌, ◌≢◌, ◌+◌, ◌<◌, [], ◌∷◌}
+use Rattle.std.proofs.lemmas.Option.{none-some, same_Some}
 use Rattle.std.specs.List.{slice_get}
-use Rattle.ruu_timing.specs.declared.pipeline.Slot.{Slot}
-use Rattle.ruu_timing.specs.Pipeline.{Placed, IsSafe}
+use Rattle.ruu_timing.specs.Pipeline.{IsSafe, Placed}
 use Rattle.ruu_timing.specs.Rows.{Each}
-use Rattle.ruu_timing.specs.Steps.{issue_at}
+use Rattle.ruu_timing.specs.Issue.{issue_at}
+use Rattle.ruu_timing.specs.declared.pipeline.Slot.{Slot}
+use Rattle.ruu_timing.proofs.Places.{placed_more}
 
 abbrev pub issuing : Slot → ℕ → Slot
 issuing slot issue = record slot { issue = issue }
@@ -51,16 +52,7 @@ placed_issue P Q from (x ∷ slots) i zero issue slot placed found at here other
     let place : from + length slots ≡ i = let h : from + length (x ∷ slots) ≡ i + suc zero = at in omega arith in
     let now : P i slot = subst (λ k. P k slot) place (subst (λ s. P (from + length slots) s) same placed.0) in (
       subst (λ k. Q k (issuing x issue)) (sym place) (subst (λ s. Q i (issuing s issue)) (sym same) (here now)),
-      placed_others P Q from slots (λ k s below. others k s (λ e. omega arith) (omega arith)) placed.1,
-    )
-  where
-    placed_others :
-        (P Q : ℕ → Slot → Type 0) (from : ℕ) (slots : List Slot)
-        → ((k : ℕ) (s : Slot) → k < from + length slots → P k s → Q k s) → Placed P from slots → Placed Q from slots
-    placed_others P Q from [] more placed = tt
-    placed_others P Q from (x ∷ slots) more placed = (
-      more (from + length slots) x (omega arith) placed.0,
-      placed_others P Q from slots (λ k s below. more k s (omega arith)) placed.1,
+      placed_more P Q from (from + length slots) (λ k s start end. others k s (λ e. omega arith) (omega arith)) slots (omega arith) placed.1,
     )
 placed_issue P Q from (x ∷ slots) i (suc j) issue slot placed found at here others =
     let h : from + length (x ∷ slots) ≡ i + suc (suc j) = at in

@@ -1,11 +1,11 @@
 -- What is looked for in the list of the first instructions, the latest first, and by their places.
-use Rattle.std.proofs.Common.{◌≡◌, ◌-◌, ◌==◌, ℕ, zero, suc, nat_le, Bool, true, false, cond, List, [], ◌∷◌, filter, length, Some, refl, sym, ◌∙◌, ap, arith, inl, inr}
+use Rattle.std.proofs.Common.{Bool, List, Some, ap, arith, cond, false, filter, inl, inr, length, nat_le, refl, suc, sym, true, zero, ℕ, ◌≡◌, ◌-◌, ◌==◌, [], ◌∷◌, ◌∙◌}
 use Rattle.std.proofs.lemmas.Bool.{cases_lt, lt-leb}
-use Rattle.std.specs.List.{slice_get, find}
+use Rattle.std.specs.List.{find, slice_get}
 use Rattle.rv_isa.specs.declared.roles.Class.{Class}
+use Rattle.ruu_timing.specs.Schedule.{access_ago, ago, alike_in, completion_of, issued_in, last_store, last_writer}
+use Rattle.ruu_timing.specs.Times.{accesses, issues_alike, issues_at, memory_ones, stores_to, time_of, writes}
 use Rattle.ruu_timing.specs.declared.timed.Timed.{Timed}
-use Rattle.ruu_timing.specs.Schedule.{ago, completion_of, last_writer, last_store, issued_in, alike_in, access_ago}
-use Rattle.ruu_timing.specs.Times.{time_of, accesses, writes, stores_to, issues_at, issues_alike, memory_ones}
 use Rattle.ruu_timing.proofs.Counts.{absent, there}
 
 abbrev pub listed : (ℕ → Timed) → ℕ → List Timed

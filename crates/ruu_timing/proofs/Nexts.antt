@@ -1,24 +1,22 @@
 -- One more instruction of a trace keeps what holds of the times.
-use Rattle.std.proofs.Common.{◌≡◌, ◌+◌, ◌-◌, ◌<◌, ◌≤◌, ℕ, Bool, true, false, if◌then◌else◌, List, [], ◌∷◌, ◌++◌, length, max, Option, Some, None, refl, arith}
-use Rattle.std.specs.Option.{IfSome}
-use Rattle.std.proofs.lemmas.Bool.{leb-true, and_parts}
+use Rattle.std.proofs.Common.{List, None, Option, Some, arith, length, max, refl, ℕ, ◌≡◌, ◌+◌, ◌-◌, ◌<◌, ◌≤◌, if◌then◌else◌, [], ◌∷◌, ◌++◌}
+use Rattle.std.proofs.lemmas.Bool.{and_parts, leb-true}
 use Rattle.std.specs.List.{find}
-use Rattle.smarts_base.specs.Least.{IsLeast}
-use Rattle.rv_isa.specs.declared.roles.Class.{Class}
+use Rattle.std.specs.Option.{IfSome}
+use Rattle.hierarchy.specs.Marked.{IsMarked, accesses_memory}
+use Rattle.hierarchy.specs.Widths.{AreWidths}
 use Rattle.hierarchy.specs.declared.marked.Marked.{Marked}
 use Rattle.hierarchy.specs.declared.widths.Widths.{Widths}
-use Rattle.hierarchy.specs.Widths.{AreWidths}
-use Rattle.hierarchy.specs.Marked.{IsMarked, accesses_memory}
-use Rattle.ruu_timing.specs.declared.timed.Timed.{Timed}
+use Rattle.rv_isa.specs.declared.roles.Class.{Class}
+use Rattle.smarts_base.specs.Least.{IsLeast}
 use Rattle.ruu_timing.specs.Class.{is_ecall, is_load}
-use Rattle.ruu_timing.specs.Times.{back, time_of, next_fetch, fetch_of, dispatch_of, memory_ones, accesses, writes, stores_to, written, stored, ready_of, issue_of, retirement_of, timed_of, timed_after}
-use Rattle.ruu_timing.specs.Rows.{IsWithin, AreTimed, IsRetiredAfter, last_of}
-use Rattle.ruu_timing.proofs.Bounds.{each_get, each_filter, each_find, each_more, within_more, retired, retired_in_order}
-use Rattle.ruu_timing.proofs.Slots.{issue_is_least, free_of, may_issue}
-
-either_le : (b : Bool) (x y n : ℕ) → x ≤ n → y ≤ n → (if b then x else y) ≤ n
-either_le true x y n first second = first
-either_le false x y n first second = second
+use Rattle.ruu_timing.specs.Rows.{AreTimed, IsRetiredAfter, IsWithin, last_of}
+use Rattle.ruu_timing.specs.Times.{accesses, back, dispatch_of, fetch_of, issue_of, memory_ones, next_fetch, ready_of, retirement_of, stored, stores_to, time_of, timed_after, timed_of, writes, written}
+use Rattle.ruu_timing.specs.declared.timed.Timed.{Timed}
+use Rattle.ruu_timing.proofs.Bounds.{retired, retired_in_order, within_more}
+use Rattle.ruu_timing.proofs.Choices.{either_le}
+use Rattle.ruu_timing.proofs.Elements.{each_filter, each_find, each_get, each_more}
+use Rattle.ruu_timing.proofs.Slots.{free_of, issue_is_least, may_issue}
 
 time_le :
     (time : Timed → ℕ) (last n : ℕ) → ((x : Timed) → IsWithin last x → time x ≤ n)
@@ -65,11 +63,11 @@ pub record IsDispatch (earlier : List Timed) (fetch dispatch : ℕ) : Type 0 whe
   pub after : fetch + 1 ≤ dispatch
   pub soon : dispatch ≤ max (fetch + 1) (last_of earlier)
 
-pub dispatch_is :
+pub dispatch_soon :
     (w : Widths) (earlier : List Timed) (m : Marked) (fetch : ℕ) → AreTimed earlier
     → IsDispatch earlier fetch (dispatch_of w earlier m fetch)
 unfolding dispatch_of
-dispatch_is w earlier m fetch timed =
+dispatch_soon w earlier m fetch timed =
     let last : ℕ = last_of earlier in
     let previous : time_of (λ x. x.dispatch) (back earlier 1) ≤ last =
     back_le (λ x. x.dispatch) last earlier 1 (λ x h. omega (arith, h.dispatch)) timed in
@@ -98,11 +96,11 @@ stored_le earlier (Some word) timed =
     time_le (λ x. x.completion) (last_of earlier) (last_of earlier) (λ x h. omega (arith, h.completion))
     (find (λ x. stores_to word x) earlier) (each_find (IsWithin (last_of earlier)) (stores_to word) earlier timed.each)
 
-pub ready_is :
+pub ready_soon :
     (earlier : List Timed) (m : Marked) (dispatch : ℕ) → AreTimed earlier
     → IsDispatch earlier dispatch (ready_of earlier m dispatch)
 unfolding ready_of
-ready_is earlier m dispatch timed =
+ready_soon earlier m dispatch timed =
     let memory : (if is_load m.class then stored earlier m.word else 0) ≤ last_of earlier =
     either_le (is_load m.class) (stored earlier m.word) 0 (last_of earlier) (stored_le earlier m.word timed) (omega arith) in
     let first : written earlier m.first ≤ last_of earlier = written_le earlier m.first timed in
@@ -123,11 +121,11 @@ pub record IsRetirement (w : Widths) (earlier : List Timed) (completion retireme
   pub soon : retirement ≤ max (completion + 1) (last_of earlier + 1)
   pub wide : time_of (λ x. x.retirement + 1) (back earlier w.retire) ≤ retirement
 
-retirement_is :
+retirement_soon :
     (w : Widths) (earlier : List Timed) (completion : ℕ) → AreTimed earlier
     → IsRetirement w earlier completion (retirement_of w earlier completion)
 unfolding retirement_of
-retirement_is w earlier completion timed =
+retirement_soon w earlier completion timed =
     let wide : time_of (λ x. x.retirement + 1) (back earlier w.retire) ≤ last_of earlier + 1 =
     back_le (λ x. x.retirement + 1) (last_of earlier + 1) earlier w.retire (λ x h. omega (arith, h.retirement)) timed in
     record { after = omega arith; order = omega arith; soon = omega arith; wide = omega arith }
@@ -135,13 +133,6 @@ retirement_is w earlier completion timed =
 one_less : (found : Option Timed) (n : ℕ) → 0 < n → time_of (λ x. x.retirement + 1) found ≤ n → time_of (λ x. x.retirement) found < n
 one_less None n some le = some
 one_less (Some x) n some le = omega arith
-
--- dispatch is in order
-pub dispatched_before :
-    (w : Widths) (earlier : List Timed) (m : Marked) (fetch : ℕ)
-    → time_of (λ x. x.dispatch) (back earlier 1) ≤ dispatch_of w earlier m fetch
-unfolding dispatch_of
-dispatched_before w earlier m fetch = omega arith
 
 pub next_times :
     (w : Widths) (earlier : List Timed) (m : Marked) → AreWidths w → IsMarked m → AreTimed earlier
@@ -155,10 +146,10 @@ next_times w earlier m widths marked timed =
     let completion : ℕ = issue + m.latency in
     let retirement : ℕ = retirement_of w earlier completion in
     let fetched : fetch ≤ last_of earlier + 1264 = fetch_le w earlier m widths marked timed in
-    let dispatched : IsDispatch earlier fetch dispatch = dispatch_is w earlier m fetch timed in
-    let waited : IsDispatch earlier dispatch ready = ready_is earlier m dispatch timed in
+    let dispatched : IsDispatch earlier fetch dispatch = dispatch_soon w earlier m fetch timed in
+    let waited : IsDispatch earlier dispatch ready = ready_soon earlier m dispatch timed in
     let issued : (ready ≤ issue) × (issue ≤ max ready (last_of earlier)) = issue_is w earlier m.class ready widths timed in
-    let retired_then : IsRetirement w earlier completion retirement = retirement_is w earlier completion timed in
+    let retired_then : IsRetirement w earlier completion retirement = retirement_soon w earlier completion timed in
     let latency : m.latency ≤ 1216 = marked.latency_most in
     let some : 0 < retirement = omega (arith, retired_then.after) in
     let near : time_of (λ x. x.retirement) (back earlier w.retire) < retirement =
@@ -176,9 +167,6 @@ next_times w earlier m widths marked timed =
         rises = retired_then.order;
         soon = omega (arith, dispatched.soon, waited.soon, issued.1, retired_then.soon);
         wide = omega arith;
-        complete = omega (arith, retired_then.after);
-        order = dispatched_before w earlier m fetch;
-        near = omega (arith, waited.soon, issued.1, retired_then.soon);
       },
     )
 

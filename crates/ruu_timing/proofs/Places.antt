@@ -1,11 +1,12 @@
 -- The places of the register update unit, the latest first.
-use Rattle.std.proofs.Common.{◌≡◌, ◌+◌, ◌-◌, ◌<◌, ◌≤◌, ℕ, zero, suc, List, [], ◌∷◌, length, take, Some, subst, arith}
+use Rattle.std.proofs.Common.{List, Some, arith, length, subst, suc, take, zero, ℕ, ◌≡◌, ◌+◌, ◌-◌, ◌<◌, ◌≤◌, [], ◌∷◌}
 use Rattle.std.proofs.lemmas.List.{length-take-le}
-use Rattle.std.proofs.lemmas.Option.{same_Some, none-some}
+use Rattle.std.proofs.lemmas.Option.{none-some, same_Some}
 use Rattle.std.specs.List.{slice_get}
 use Rattle.circular_buffer.specs.Buffer.{last_item}
+use Rattle.ruu_timing.specs.Pipeline.{IsSlot, Placed}
 use Rattle.ruu_timing.specs.declared.pipeline.Slot.{Slot}
-use Rattle.ruu_timing.specs.Pipeline.{Placed}
+use Rattle.ruu_timing.specs.declared.timed.Timed.{Timed}
 
 -- what holds of each place, where it follows from another fact of instructions in a range
 pub placed_more :
@@ -47,3 +48,20 @@ placed_oldest P from (x ∷ y ∷ slots) slot placed found =
     let place : from + length rest ≡ from + 1 + length (take (length rest - 1) rest) =
     omega (arith, length-take-le (length rest - 1) rest (omega arith)) in
     (parts.0, rw e (subst (λ k. P k x) place placed.0, parts.1))
+
+-- the same place at other cycles, where as much is known of its issue
+pub slot_still :
+    (x : ℕ → Timed) (v u after next i : ℕ) (slot : Slot) → IsSlot x v u i slot
+    → ((x i).issue < after → slot.issue ≡ (x i).issue) → (after ≤ (x i).issue → next ≤ slot.issue)
+    → IsSlot x after next i slot
+slot_still x v u after next i slot is issued waits = record {
+  class = is.class;
+  latency = is.latency;
+  first = is.first;
+  second = is.second;
+  store = is.store;
+  after = is.after;
+  most = is.most;
+  issued = issued;
+  waits = waits;
+}

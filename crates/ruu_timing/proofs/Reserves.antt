@@ -1,47 +1,28 @@
 -- What safety takes of a processor is kept when an instruction enters the register update unit.
-use Rattle.std.proofs.Common.{◌≡◌, ◌+◌, ◌-◌, ◌<◌, ◌≤◌, ℕ, zero, suc, nat_le, cond, Bool, true, false, List, [], ◌∷◌, ◌++◌, length, drop, take, set, get_or, Option, Some, None, refl, ◌∙◌, ap, arith}
-use Rattle.std.specs.List.{slice_get, find}
-use Rattle.std.proofs.lemmas.Bool.{lt-leb}
-use Rattle.std.proofs.lemmas.Option.{none-some}
+use Rattle.std.proofs.Common.{Bool, List, None, Option, Some, ap, arith, cond, drop, false, length, refl, take, true, ℕ, ◌≡◌, ◌+◌, ◌-◌, ◌<◌, ◌≤◌, [], ◌∷◌, ◌∙◌}
 use Rattle.std.proofs.lemmas.List.{length-append, take_all}
+use Rattle.std.proofs.lemmas.Option.{none-some}
+use Rattle.std.specs.List.{find, slice_get}
+use Rattle.circular_buffer.specs.Buffer.{Buffer, buffer}
 use Rattle.hierarchy.specs.Marked.{accesses_memory}
 use Rattle.hierarchy.specs.declared.marked.Marked.{Marked}
 use Rattle.hierarchy.specs.declared.widths.Widths.{Widths}
-use Rattle.circular_buffer.specs.Buffer.{Buffer, buffer}
-use Rattle.ruu_timing.specs.declared.timed.Timed.{Timed}
-use Rattle.ruu_timing.specs.declared.pipeline.Access.{Access}
-use Rattle.ruu_timing.specs.declared.pipeline.Pipeline.{Pipeline}
-use Rattle.ruu_timing.specs.declared.pipeline.Slot.{Slot}
 use Rattle.ruu_timing.specs.Class.{is_load, is_store}
 use Rattle.ruu_timing.specs.Pipeline.{HasReserve, IsCount, IsHeld, IsPipeline, IsSafe, unissued}
 use Rattle.ruu_timing.specs.Rows.{Each}
 use Rattle.ruu_timing.specs.Schedule.{IsSchedule}
-use Rattle.ruu_timing.specs.Steps.{Dispatches, HasDispatched, HasEntered, access_stores, number_in, slot_of, source_in, store_in, written_by}
-use Rattle.ruu_timing.proofs.Bounds.{each_more}
-use Rattle.ruu_timing.proofs.Entering.{length_marks, length_written, popped, place_parts}
+use Rattle.ruu_timing.specs.Dispatch.{Dispatches, HasDispatched, HasEntered, access_stores, number_in, slot_of, source_in, store_in, written_by}
+use Rattle.ruu_timing.specs.declared.pipeline.Access.{Access}
+use Rattle.ruu_timing.specs.declared.pipeline.Pipeline.{Pipeline}
+use Rattle.ruu_timing.specs.declared.pipeline.Slot.{Slot}
+use Rattle.ruu_timing.specs.declared.timed.Timed.{Timed}
+use Rattle.ruu_timing.proofs.Elements.{each_last, each_more, each_set, each_take, get_least}
+use Rattle.ruu_timing.proofs.Entering.{length_written, place_parts, popped}
+use Rattle.ruu_timing.proofs.FetchQueue.{length_marks}
 use Rattle.ruu_timing.proofs.Rising.{in_order}
-
-each_take : {X : Type 0} (P : X → Type 0) (n : ℕ) (xs : List X) → Each P xs → Each P (take n xs)
-each_take P zero [] each = tt
-each_take P zero (x ∷ xs) each = tt
-each_take P (suc n) [] each = tt
-each_take P (suc n) (x ∷ xs) each = (each.0, each_take P n xs each.1)
-
-each_set : {X : Type 0} (P : X → Type 0) (xs : List X) (i : ℕ) (x : X) → P x → Each P xs → Each P (set xs i x)
-each_set P [] i x holds each = tt
-each_set P (y ∷ xs) zero x holds each = (holds, each.1)
-each_set P (y ∷ xs) (suc i) x holds each = (each.0, each_set P xs i x holds each.1)
-
-each_last : {X : Type 0} (P : X → Type 0) (xs : List X) (x : X) → Each P xs → P x → Each P (xs ++ x ∷ [])
-each_last P [] x each holds = (holds, tt)
-each_last P (y ∷ xs) x each holds = (each.0, each_last P xs x each.1 holds)
+use Rattle.ruu_timing.proofs.Unissued.{waiting_late}
 
 -- what is found in a table or a queue is no later than what has been dispatched
-get_least : (most : ℕ) (xs : List ℕ) (i : ℕ) → Each (λ number. number ≤ most) xs → get_or xs i 0 ≤ most
-get_least most [] i each = omega arith
-get_least most (x ∷ xs) zero each = each.0
-get_least most (x ∷ xs) (suc i) each = get_least most xs i each.1
-
 source_least : (most : ℕ) (writers : List ℕ) (register : Option ℕ) → Each (λ number. number ≤ most) writers → source_in writers register ≤ most
 source_least most writers None each = omega arith
 source_least most writers (Some r) each = get_least most writers r each
@@ -186,35 +167,17 @@ sound_kept w p q sound dispatched =
 pub cycle_kept : (w : Widths) (p q : Pipeline) → HasDispatched w true p q → q.cycle ≡ p.cycle
 cycle_kept w p q dispatched = entering w p q dispatched (λ m is. is.entered.cycle)
 
--- no more wait than have a place in the register update unit
-waiting_few : (x : ℕ → Timed) (v from k : ℕ) → length (unissued x v from k) ≤ k
-waiting_few x v from zero = omega arith
-waiting_few x v from (suc k) = few (nat_le v (x from).issue) (unissued x v (suc from) k) (waiting_few x v (suc from) k)
-  where
-    few : (b : Bool) (xs : List ℕ) → length xs ≤ k → length (cond b (suc from ∷ xs) xs) ≤ suc k
-    few true xs le = omega arith
-    few false xs le = omega arith
-
-waiting_late :
-    (x : ℕ → Timed) (v from k rest : ℕ) → ((j : ℕ) → from ≤ j → j < from + k → (x j).issue < v)
-    → length (unissued x v from (k + rest)) ≤ rest
-waiting_late x v from zero rest early = let e : 0 + rest ≡ rest = omega arith in rw e (waiting_few x v from rest)
-waiting_late x v from (suc k) rest early =
-    let e : suc k + rest ≡ suc (k + rest) = omega arith in
-    let now : (x from).issue < v = early from (omega arith) (omega arith) in
-    rw (e, lt-leb v (x from).issue now) (waiting_late x v (suc from) k rest (λ j le below. early j (omega arith) (omega arith)))
-
 pub held_reserve :
     (w : Widths) (n : ℕ) (x : ℕ → Timed) (v : ℕ) (p : Pipeline) → IsSchedule w n x → IsHeld w n x v p
     → IsCount n (λ i. (x i).retirement) p.retired v v → HasReserve w p
 held_reserve w n x v p is held retired =
     let queue : length p.queue.items ≡ p.fetched - p.dispatched =
     ap (λ b. length b.items) held.queue ∙ length_marks x p.dispatched (p.fetched - p.dispatched) in
-    let early : (j : ℕ) → 0 ≤ j → j < 0 + p.retired → (x j).issue < v = λ j le below.
+    let early : (j : ℕ) → j < p.retired → (x j).issue < v = λ j below.
     (let order = in_order w n x j is (omega (arith, retired.within)) in
     omega (arith, order.completion, order.retirement, retired.before j (omega arith))) in
     let late : length (unissued x v 0 (p.retired + length p.unit.items)) ≤ length p.unit.items =
-    waiting_late x v 0 p.retired (length p.unit.items) early in
+    waiting_late x v p.retired (length p.unit.items) early in
     record {
       queued = omega (arith, held.queued);
       capacity = held.capacity;

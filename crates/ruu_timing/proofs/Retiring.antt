@@ -1,25 +1,27 @@
 -- The instructions that are retired in a cycle.
-use Rattle.std.proofs.Common.{◌≡◌, ◌+◌, ◌-◌, ◌<◌, ◌≤◌, ◌^◌, ◌++◌, ℕ, zero, suc, Bool, true, false, if◌then◌else◌, List, [], ◌∷◌, length, take, Option, Some, None, refl, sym, ◌∙◌, ap, subst, arith, inl, inr, length-append}
-use Rattle.std.specs.Option.{IfSome}
-use Rattle.std.specs.List.{slice_get}
+use Rattle.std.proofs.Common.{Bool, List, None, Option, Some, ap, arith, false, inl, inr, length, length-append, refl, subst, suc, sym, take, true, zero, ℕ, ◌≡◌, ◌+◌, ◌-◌, ◌<◌, ◌≤◌, ◌^◌, ◌++◌, if◌then◌else◌, [], ◌∷◌, ◌∙◌}
 use Rattle.std.proofs.lemmas.Bool.{cases_lt}
 use Rattle.std.proofs.lemmas.List.{length-take-le, take-append-le, take_all}
+use Rattle.std.specs.List.{slice_get}
+use Rattle.std.specs.Option.{IfSome}
 use Rattle.circular_buffer.specs.Buffer.{Buffer, buffer, last_item}
-use Rattle.hierarchy.specs.declared.widths.Widths.{Widths}
-use Rattle.hierarchy.specs.Widths.{AreWidths}
 use Rattle.hierarchy.specs.Marked.{accesses_memory}
-use Rattle.ruu_timing.specs.declared.timed.Timed.{Timed}
+use Rattle.hierarchy.specs.Widths.{AreWidths}
+use Rattle.hierarchy.specs.declared.widths.Widths.{Widths}
+use Rattle.ruu_timing.specs.Pipeline.{IsCount, IsDone, IsHeld, IsPipeline, IsSafe, IsSlot, Placed, access_of, accesses_from, completes}
+use Rattle.ruu_timing.specs.Rows.{Each}
+use Rattle.ruu_timing.specs.Schedule.{IsSchedule, ago, begin_at, retirement_at}
+use Rattle.ruu_timing.specs.Retire.{HasRetired, Retires, without_oldest}
+use Rattle.ruu_timing.specs.Times.{accesses}
 use Rattle.ruu_timing.specs.declared.pipeline.Access.{Access}
 use Rattle.ruu_timing.specs.declared.pipeline.Pipeline.{Pipeline}
 use Rattle.ruu_timing.specs.declared.pipeline.Slot.{Slot}
-use Rattle.ruu_timing.specs.Pipeline.{IsCount, IsSlot, Placed, access_of, accesses_from, IsArriving, IsHeld, IsDone, IsSafe, IsPipeline}
-use Rattle.ruu_timing.specs.Rows.{Each}
-use Rattle.ruu_timing.specs.Schedule.{IsSchedule, ago, begin_at, retirement_at}
-use Rattle.ruu_timing.specs.Steps.{completes, without_oldest, Retires, HasRetired}
-use Rattle.ruu_timing.specs.Times.{accesses}
-use Rattle.ruu_timing.proofs.Counts.{IsCounting, counting_more, counted, width_done, width_waits, absent, there}
+use Rattle.ruu_timing.specs.declared.timed.Timed.{Timed}
+use Rattle.ruu_timing.proofs.Counts.{IsCounting, counted, counting_more, last_done, width_done, width_waits}
+use Rattle.ruu_timing.proofs.Elements.{each_take}
+use Rattle.ruu_timing.proofs.FetchQueue.{arriving_kept}
 use Rattle.ruu_timing.proofs.Places.{placed_oldest}
-use Rattle.ruu_timing.proofs.Rising.{retirement_rises, IsInOrder, in_order}
+use Rattle.ruu_timing.proofs.Rising.{IsInOrder, in_order, retirement_rises}
 
 -- so many have been retired in cycle t, behind those up to `start`
 pub record IsRetiring (w : Widths) (n : ℕ) (x : ℕ → Timed) (start t count : ℕ) (p : Pipeline) : Type 0 where
@@ -70,16 +72,6 @@ pub shorter :
 shorter true xs x old capacity e = rw (e, take_front xs x) refl
 shorter false xs x old capacity e = e
 
-pub arriving_same :
-    (w : Widths) (n : ℕ) (x : ℕ → Timed) (p q : Pipeline) (at : Option ℕ) → q.fetched ≡ p.fetched → q.dispatched ≡ p.dispatched
-    → IfSome at (IsArriving w n x p) → IfSome at (IsArriving w n x q)
-arriving_same w n x p q None fetched dispatched is = tt
-arriving_same w n x p q (Some at) fetched dispatched is = record {
-  some = rw fetched is.some;
-  fetch = rw fetched is.fetch;
-  room = rw (fetched, dispatched) is.room;
-}
-
 pub some_items : {X : Type 0} (xs : List X) (x : X) → last_item xs ≡ Some x → 1 ≤ length xs
 some_items [] x e = absurd (cc)
 some_items (y ∷ xs) x e = omega arith
@@ -122,20 +114,12 @@ completes_by :
     (x : ℕ → Timed) (t : ℕ) (p : Pipeline) (slot : Slot) → IsOldest x t p slot → completes slot ≤ (x p.retired).completion
 completes_by x t p slot is = omega (arith, is.first.latency, is.first.most, is.times.latency)
 
-before_by :
-    (n : ℕ) (time : ℕ → ℕ) (start count t : ℕ) → IsCounting n time start count t → ago time count 1 ≤ t
-before_by n time start count t is =
-    elim (cases_lt count 1) [
-      | inl lt ↦ rw (absent time count 1 lt) (omega arith)
-      | inr ge ↦ rw (there time count 1 ge) (is.done (count - 1) (omega arith))
-    ]
-
 retired_by :
     (w : Widths) (n : ℕ) (x : ℕ → Timed) (start t count : ℕ) (p : Pipeline) → IsSchedule w n x → IsRetiring w n x start t count p
     → count < w.retire → p.retired < n → (x p.retired).completion < t → (x p.retired).retirement ≤ t
 unfolding retirement_at
 retired_by w n x start t count p is retiring room within complete =
-    let order : ago (λ j. (x j).retirement) p.retired 1 ≤ t = before_by n (λ i. (x i).retirement) start p.retired t retiring.counting in
+    let order : ago (λ j. (x j).retirement) p.retired 1 ≤ t = last_done n (λ i. (x i).retirement) start p.retired t retiring.counting in
     let wide : ago (λ j. (x j).retirement + 1) p.retired w.retire ≤ t =
     width_done n (λ i. (x i).retirement) start p.retired t w.retire retiring.counting (omega (arith, retiring.so_far)) in
     omega (arith, is.retirement p.retired within)
@@ -173,7 +157,7 @@ without_held w n x t p slot held is complete retired =
       latest = held.latest;
       completion = rw next complete;
       retirement = rw next retired;
-      arriving = arriving_same w n x p (without_oldest p slot) p.arriving refl refl held.arriving;
+      arriving = arriving_kept w n x p (without_oldest p slot) p.arriving refl (omega arith) held.arriving;
     }
 
 -- one more is retired
@@ -257,12 +241,6 @@ retires_all w n x start t count p widths is full retiring =
     let wide : t < ago (λ j. (x j).retirement + 1) p.retired w.retire =
     width_waits n (λ i. (x i).retirement) start p.retired t w.retire retiring.counting widths.retire.0 (omega (arith, retiring.so_far)) in
     retires_none w n x start t count p is retiring (λ within. omega (arith, wide, is.retirement p.retired within))
-
--- what safety takes stays
-each_take : {X : Type 0} (P : X → Type 0) (k : ℕ) (xs : List X) → Each P xs → Each P (take k xs)
-each_take P zero xs each = tt
-each_take P (suc k) [] each = tt
-each_take P (suc k) (x ∷ xs) each = (each.0, each_take P k xs each.1)
 
 each_if :
     {X : Type 0} (P : X → Type 0) (b : Bool) (k : ℕ) (old : Buffer X) → Each P old.items

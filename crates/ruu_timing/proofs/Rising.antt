@@ -1,14 +1,11 @@
 -- The times of a schedule rise in program order, and each instruction's own from fetch to retirement.
-use Rattle.std.proofs.Common.{◌≡◌, ◌+◌, ◌-◌, ◌<◌, ◌≤◌, ◌^◌, ℕ, suc, if◌then◌else◌, Bool, true, false, refl, arith}
+use Rattle.std.proofs.Common.{arith, refl, suc, ℕ, ◌≡◌, ◌+◌, ◌-◌, ◌<◌, ◌≤◌, ◌^◌, if◌then◌else◌}
 use Rattle.hierarchy.specs.declared.widths.Widths.{Widths}
-use Rattle.ruu_timing.specs.declared.timed.Timed.{Timed}
-use Rattle.ruu_timing.specs.Schedule.{IsSchedule, ago, begin_at, dispatch_at, ready_at, retirement_at, next_at}
+use Rattle.ruu_timing.specs.Schedule.{IsSchedule, ago, begin_at, dispatch_at, next_at, ready_at, retirement_at}
 use Rattle.ruu_timing.specs.Times.{next_fetch}
+use Rattle.ruu_timing.specs.declared.timed.Timed.{Timed}
+use Rattle.ruu_timing.proofs.Choices.{either_least}
 use Rattle.ruu_timing.proofs.Counts.{AreRising, there}
-
-either_least : (b : Bool) (x y n : ℕ) → n ≤ x → n ≤ y → n ≤ (if b then x else y)
-either_least true x y n first second = first
-either_least false x y n first second = second
 
 pub fetch_next : (w : Widths) (x : Timed) → x.fetch ≤ next_fetch w x
 fetch_next w x =

@@ -1,10 +1,10 @@
 -- A run of cycles until so many instructions are retired.
-use Rattle.std.proofs.Common.{◌≡◌, ◌⊎◌, ◌+◌, ◌^◌, ◌<◌, ◌≤◌, ℕ, zero, suc, ◌∙◌, ap, arith, inl, inr}
+use Rattle.std.proofs.Common.{ap, arith, inl, inr, suc, zero, ℕ, ◌≡◌, ◌⊎◌, ◌+◌, ◌^◌, ◌<◌, ◌≤◌, ◌∙◌}
 use Rattle.std.proofs.lemmas.Bool.{cases_lt}
 use Rattle.hierarchy.specs.declared.widths.Widths.{Widths}
-use Rattle.ruu_timing.specs.declared.timed.Timed.{Timed}
 use Rattle.ruu_timing.specs.Pipeline.{IsCount}
 use Rattle.ruu_timing.specs.Schedule.{IsSchedule, retirement_of}
+use Rattle.ruu_timing.specs.declared.timed.Timed.{Timed}
 use Rattle.ruu_timing.proofs.Counts.{rising_to}
 use Rattle.ruu_timing.proofs.Rising.{retirement_rises}
 
@@ -15,10 +15,10 @@ pub last_later :
 last_later n x retired t zero is fewer within = absurd (omega arith)
 last_later n x retired t (suc i) is fewer within = is.after i (omega arith) (omega arith)
 
-pub last_small :
+pub retirement_small :
     (w : Widths) (n : ℕ) (x : ℕ → Timed) (count : ℕ) → IsSchedule w n x → count ≤ n → retirement_of x count ≤ 2 ^ 32
-last_small w n x zero is within = omega arith
-last_small w n x (suc i) is within = is.small i (omega arith)
+retirement_small w n x zero is within = omega arith
+retirement_small w n x (suc i) is within = is.small i (omega arith)
 
 -- what is retired with the last one is retired in the same cycle
 pub last_same :

@@ -1,50 +1,16 @@
 -- What the processor holds, it holds safely.
-use Rattle.std.proofs.Common.{◌+◌, ◌<◌, ◌≤◌, ◌^◌, ℕ, zero, suc, true, false, nat_le, if◌then◌else◌, List, [], ◌∷◌, length, get_or, Option, Some, None, arith, inl, inr}
+use Rattle.std.proofs.Common.{List, arith, get_or, length, ℕ, ◌+◌, ◌<◌, ◌≤◌, ◌^◌, [], ◌∷◌}
 use Rattle.hierarchy.specs.declared.widths.Widths.{Widths}
-use Rattle.ruu_timing.specs.declared.timed.Timed.{Timed}
+use Rattle.ruu_timing.specs.Pipeline.{IsHeld, IsPipeline, IsSafe, IsSlot, Placed}
+use Rattle.ruu_timing.specs.Rows.{Each}
+use Rattle.ruu_timing.specs.Schedule.{IsSchedule, awaited_store, writer_of}
 use Rattle.ruu_timing.specs.declared.pipeline.Pipeline.{Pipeline}
 use Rattle.ruu_timing.specs.declared.pipeline.Slot.{Slot}
-use Rattle.ruu_timing.specs.Class.{is_load}
-use Rattle.ruu_timing.specs.Pipeline.{IsSource, IsSlot, Placed, access_of, accesses_from, unissued, IsHeld, IsSafe, IsPipeline}
-use Rattle.ruu_timing.specs.Rows.{Each}
-use Rattle.ruu_timing.specs.Schedule.{last_writer, last_store, writer_of, store_of, awaited_store, IsSchedule}
-use Rattle.ruu_timing.specs.Times.{accesses, writes, stores_to}
-
--- numbers of instructions are no larger than how many there are
-pub last_writer_le : (x : ℕ → Timed) (register i : ℕ) → last_writer x register i ≤ i
-last_writer_le x register zero = omega arith
-last_writer_le x register (suc i) =
-    elim (writes register (x i)) as (λ b. (if b then suc i else last_writer x register i) ≤ suc i) [
-      | true ↦ omega arith
-      | false ↦ omega (arith, last_writer_le x register i)
-    ]
-
-pub last_store_le : (x : ℕ → Timed) (word i : ℕ) → last_store x word i ≤ i
-last_store_le x word zero = omega arith
-last_store_le x word (suc i) =
-    elim (stores_to word (x i)) as (λ b. (if b then suc i else last_store x word i) ≤ suc i) [
-      | true ↦ omega arith
-      | false ↦ omega (arith, last_store_le x word i)
-    ]
-
-pub writer_le : (x : ℕ → Timed) (i : ℕ) (register : Option ℕ) → writer_of x i register ≤ i
-writer_le x i None = omega arith
-writer_le x i (Some register) = last_writer_le x register i
-
-pub store_le : (x : ℕ → Timed) (i : ℕ) (word : Option ℕ) → store_of x i word ≤ i
-store_le x i None = omega arith
-store_le x i (Some word) = last_store_le x word i
-
-pub awaited_le : (x : ℕ → Timed) (i : ℕ) → awaited_store x i ≤ i
-awaited_le x i =
-    elim (is_load (x i).mark.class) as (λ b. (if b then store_of x i (x i).mark.word else 0) ≤ i) [
-      | true ↦ store_le x i (x i).mark.word
-      | false ↦ omega arith
-    ]
-
-pub source_le : (x : ℕ → Timed) (by awaited number most : ℕ) → IsSource x by awaited number → awaited ≤ most → number ≤ most
-source_le x by awaited number most (inl same) le = omega arith
-source_le x by awaited number most (inr none) le = omega (arith, none.0)
+use Rattle.ruu_timing.specs.declared.timed.Timed.{Timed}
+use Rattle.ruu_timing.proofs.Accesses.{accesses_le}
+use Rattle.ruu_timing.proofs.Awaited.{awaited_le, last_writer_le, source_le, writer_le}
+use Rattle.ruu_timing.proofs.Elements.{each_index}
+use Rattle.ruu_timing.proofs.Unissued.{unissued_le}
 
 pub slot_safe : (x : ℕ → Timed) (v u i most : ℕ) (slot : Slot) → IsSlot x v u i slot → i ≤ most → IsSafe most slot
 slot_safe x v u i most slot is le = record {
@@ -64,29 +30,6 @@ slots_safe x v u from most (slot ∷ slots) placed le =
       slot_safe x v u (from + length slots) most slot placed.0 (omega arith),
       slots_safe x v u from most slots placed.1 (omega arith),
     )
-
-each_index : (P : ℕ → Type 0) (xs : List ℕ) → ((r : ℕ) → r < length xs → P (get_or xs r 0)) → Each P xs
-each_index P [] each = tt
-each_index P (x ∷ xs) each = (each 0 (omega arith), each_index P xs (λ r below. each (suc r) (omega arith)))
-
-pub accesses_le :
-    (x : ℕ → Timed) (from k most : ℕ) → from + k ≤ most → Each (λ access. access.number ≤ most) (accesses_from x from k)
-accesses_le x from zero most le = tt
-accesses_le x from (suc k) most le =
-    let rest : Each (λ access. access.number ≤ most) (accesses_from x from k) = accesses_le x from k most (omega arith) in
-    elim (accesses (x (from + k))) as (λ b. Each (λ access. access.number ≤ most) (if b then access_of (suc (from + k)) (x (from + k)) ∷ accesses_from x from k else accesses_from x from k)) [
-      | true ↦ (omega arith, rest)
-      | false ↦ rest
-    ]
-
-pub unissued_le : (x : ℕ → Timed) (v from k most : ℕ) → from + k ≤ most → Each (λ number. number ≤ most) (unissued x v from k)
-unissued_le x v from zero most le = tt
-unissued_le x v from (suc k) most le =
-    let rest : Each (λ number. number ≤ most) (unissued x v (suc from) k) = unissued_le x v (suc from) k most (omega arith) in
-    elim (nat_le v (x from).issue) as (λ b. Each (λ number. number ≤ most) (if b then suc from ∷ unissued x v (suc from) k else unissued x v (suc from) k)) [
-      | true ↦ (omega arith, rest)
-      | false ↦ rest
-    ]
 
 pub held_pipeline :
     (w : Widths) (n : ℕ) (x : ℕ → Timed) (v : ℕ) (p : Pipeline) → IsSchedule w n x → IsHeld w n x v p → p.cycle ≤ 2 ^ 33

@@ -1,17 +1,17 @@
 -- The cycles of a processor that handles one instruction at a time, one instruction further.
-use Rattle.std.proofs.Common.{◌≡◌, ◌+◌, ◌-◌, ◌*◌, ◌<◌, ◌≤◌, ℕ, suc, List, [], ◌∷◌, length, drop, Some, refl, sym, ap, add-one, arith}
-use Rattle.std.specs.List.{slice_get}
-use Rattle.std.specs.Prelude.{sum_by}
+use Rattle.std.proofs.Common.{List, Some, add-one, ap, arith, drop, length, refl, suc, sym, ℕ, ◌≡◌, ◌+◌, ◌-◌, ◌*◌, ◌<◌, ◌≤◌, [], ◌∷◌}
 use Rattle.std.proofs.Math.Seq.{drop-cons}
 use Rattle.std.proofs.lemmas.List.{drop_all, length-drop}
-use Rattle.rv_isa.specs.declared.roles.Class.{Class}
-use Rattle.rv_isa.specs.declared.roles.Class.TheVariants.{Alu, Mul, Div, Load, Store, Control, Ecall}
 use Rattle.std.proofs.lemmas.List.Sums.{sum_by-cons}
-use Rattle.std.proofs.lemmas.Option.{slice_get_within, get_or_from_slice_get}
+use Rattle.std.proofs.lemmas.Option.{get_or_from_slice_get, slice_get_within}
+use Rattle.std.specs.List.{slice_get}
+use Rattle.std.specs.Prelude.{sum_by}
+use Rattle.hierarchy.specs.Widths.{AreLatencies}
 use Rattle.hierarchy.specs.declared.marked.Marked.{Marked}
 use Rattle.hierarchy.specs.declared.widths.Latencies.{Latencies}
-use Rattle.hierarchy.specs.Widths.{AreLatencies}
-use Rattle.ruu_timing.specs.Scalar.{scalar_latency, scalar_cycles}
+use Rattle.rv_isa.specs.declared.roles.Class.{Class}
+use Rattle.rv_isa.specs.declared.roles.Class.TheVariants.{Alu, Control, Div, Ecall, Load, Mul, Store}
+use Rattle.ruu_timing.specs.Scalar.{scalar_cycles, scalar_latency}
 
 pub one_fewer :
     (l : Latencies) (ms : List Marked) (i : ℕ) (m : Marked) → slice_get ms i ≡ Some m

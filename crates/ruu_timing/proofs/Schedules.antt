@@ -1,22 +1,23 @@
 -- The times of a trace are a schedule: the formulas by places say what those over lists do.
-use Rattle.std.proofs.Common.{◌≡◌, ◌+◌, ◌-◌, ◌<◌, ◌≤◌, ℕ, zero, suc, Bool, true, false, if◌then◌else◌, List, [], ◌∷◌, length, take, get_or, All, Option, Some, None, refl, sym, ◌∙◌, ap, subst, arith}
+use Rattle.std.proofs.Common.{All, Bool, List, None, Option, Some, ap, arith, false, get_or, length, refl, subst, suc, sym, take, true, zero, ℕ, ◌≡◌, ◌+◌, ◌-◌, ◌<◌, ◌≤◌, if◌then◌else◌, [], ◌∷◌, ◌∙◌}
 use Rattle.std.proofs.lemmas.List.{length-take-le}
 use Rattle.std.proofs.lemmas.Option.{slice_get-get_or}
 use Rattle.std.specs.List.{slice_get}
+use Rattle.hierarchy.specs.Marked.{IsMarked}
+use Rattle.hierarchy.specs.Widths.{AreWidths}
 use Rattle.hierarchy.specs.declared.marked.Marked.{Marked}
 use Rattle.hierarchy.specs.declared.widths.Widths.{Widths}
-use Rattle.hierarchy.specs.Widths.{AreWidths}
-use Rattle.hierarchy.specs.Marked.{IsMarked}
-use Rattle.ruu_timing.specs.declared.timed.Timed.{Timed}
 use Rattle.ruu_timing.specs.Class.{is_load}
 use Rattle.ruu_timing.specs.Laws.{IsFirst}
-use Rattle.ruu_timing.specs.Rows.{Each, AreTimed}
-use Rattle.ruu_timing.specs.Schedule.{nothing, timed_at, ago, next_at, begin_at, dispatch_at, ready_at, has_place, retirement_at, completion_of, writer_of, store_of, IsSchedule}
-use Rattle.ruu_timing.specs.Times.{times, timed_of, back, time_of, next_fetch, fetch_of, dispatch_of, ready_of, issue_of, has_slot, retirement_of, written, stored, timed_after}
+use Rattle.ruu_timing.specs.Rows.{AreTimed}
+use Rattle.ruu_timing.specs.Schedule.{IsSchedule, ago, begin_at, completion_of, dispatch_at, has_place, next_at, nothing, ready_at, retirement_at, store_of, timed_at, writer_of}
+use Rattle.ruu_timing.specs.Times.{back, dispatch_of, fetch_of, has_slot, issue_of, next_fetch, ready_of, retirement_of, stored, time_of, timed_after, timed_of, times, written}
+use Rattle.ruu_timing.specs.declared.timed.Timed.{Timed}
 use Rattle.ruu_timing.proofs.Bounds.{small}
-use Rattle.ruu_timing.proofs.Listed.{listed, got, found_writer, found_store, count_issued, count_alike, found_access}
-use Rattle.ruu_timing.proofs.Slots.{issue_is_least, first_slot_is}
-use Rattle.ruu_timing.proofs.Totals.{times_more, marked_at, after_timed, each_of}
+use Rattle.ruu_timing.proofs.Elements.{each_of, each_take}
+use Rattle.ruu_timing.proofs.Listed.{count_alike, count_issued, found_access, found_store, found_writer, got, listed}
+use Rattle.ruu_timing.proofs.Slots.{first_slot_is, issue_is_least}
+use Rattle.ruu_timing.proofs.Totals.{after_timed, marked_at, times_more}
 
 -- the i-th instruction is timed behind those before it
 pub timed_is :
@@ -153,18 +154,13 @@ parts_at w ms i below =
     subst (IsTimed w (times w (take i ms))) (sym (timed_is w ms i m there)) (timed_parts w (times w (take i ms)) m) in
     subst (λ rows. IsTimed w rows (timed_at w ms i)) (times_listed w ms i (omega arith)) parts
 
-all_take : (ms : List Marked) (i : ℕ) → Each IsMarked ms → Each IsMarked (take i ms)
-all_take ms zero marks = tt
-all_take [] (suc i) marks = tt
-all_take (m ∷ ms) (suc i) marks = (marks.0, all_take ms i marks.1)
-
 pub timed_to :
     (w : Widths) (ms : List Marked) (i : ℕ) → AreWidths w → length ms ≤ 110000 → All IsMarked ms → i ≤ length ms
     → AreTimed (listed (timed_at w ms) i)
 timed_to w ms i widths few marks within =
     let none : AreTimed [] = record { each = tt; order = tt; few = omega arith } in
     subst AreTimed (times_listed w ms i within)
-    (after_timed w [] (take i ms) widths none (omega (arith, length-take-le i ms within)) (all_take ms i (each_of IsMarked ms marks)))
+    (after_timed w [] (take i ms) widths none (omega (arith, length-take-le i ms within)) (each_take IsMarked i ms (each_of IsMarked ms marks)))
 
 issue_first :
     (w : Widths) (x : ℕ → Timed) (i : ℕ) → AreWidths w → AreTimed (listed x i) → IsTimed w (listed x i) (x i)

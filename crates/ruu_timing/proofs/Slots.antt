@@ -1,22 +1,19 @@
 -- An issue time is the least cycle with a slot: from the last retirement on each cycle has one.
-use Rattle.std.proofs.Common.{◌≡◌, ◌+◌, ◌<◌, ◌≤◌, ◌==◌, ◌&&◌, ℕ, Bool, true, false, List, [], ◌∷◌, filter, nat_le, nat_lt, max, Option, Some, None, refl, sym, ◌∙◌, arith, inl, inr}
-use Rattle.std.proofs.lemmas.Bool.{le-leb, lt-leb, lt-ltb, cases_lt, ne_eqb, false≢true, and_parts, leb-true}
+use Rattle.std.proofs.Common.{Bool, List, None, Option, Some, arith, false, filter, inl, inr, max, nat_le, nat_lt, refl, sym, true, ℕ, ◌≡◌, ◌+◌, ◌<◌, ◌≤◌, ◌==◌, ◌&&◌, [], ◌∷◌, ◌∙◌}
+use Rattle.std.proofs.lemmas.Bool.{and_parts, cases_lt, false≢true, le-leb, leb-true, lt-ltb, ne_eqb}
 use Rattle.std.specs.Option.{unwrap_or}
-use Rattle.smarts_base.specs.Least.{least_below, IsLeast, IsLeastIfAny}
-use Rattle.smarts_base.proofs.Leasts.{least_below_is, least_below_some}
-use Rattle.rv_isa.specs.declared.roles.Class.{Class}
-use Rattle.rv_isa.specs.declared.roles.Class.TheVariants.{Alu, Mul, Div, Load, Store, Control, Ecall}
-use Rattle.hierarchy.specs.declared.widths.Widths.{Widths}
 use Rattle.hierarchy.specs.Widths.{AreWidths}
-use Rattle.ruu_timing.specs.declared.timed.Timed.{Timed}
+use Rattle.hierarchy.specs.declared.widths.Widths.{Widths}
+use Rattle.rv_isa.specs.declared.roles.Class.{Class}
+use Rattle.rv_isa.specs.declared.roles.Class.TheVariants.{Alu, Control, Div, Ecall, Load, Mul, Store}
+use Rattle.smarts_base.proofs.Leasts.{least_below_is, least_below_some}
+use Rattle.smarts_base.specs.Least.{IsLeast, IsLeastIfAny, least_below}
 use Rattle.ruu_timing.specs.Class.{limit_of}
 use Rattle.ruu_timing.specs.Laws.{IsFirst}
-use Rattle.ruu_timing.specs.Times.{has_slot, issue_of, issues_at, issues_alike}
-use Rattle.ruu_timing.specs.Rows.{Each, IsWithin, AreTimed, last_of}
-
-none_left : {X : Type 0} (test : X → Bool) (xs : List X) → Each (λ x. test x ≡ false) xs → filter test xs ≡ []
-none_left test [] each = refl
-none_left test (x ∷ xs) each = rw each.0 (none_left test xs each.1)
+use Rattle.ruu_timing.specs.Rows.{AreTimed, Each, IsWithin, last_of}
+use Rattle.ruu_timing.specs.Times.{has_slot, issue_of, issues_alike, issues_at}
+use Rattle.ruu_timing.specs.declared.timed.Timed.{Timed}
+use Rattle.ruu_timing.proofs.Elements.{filter_none}
 
 not_at : (t last : ℕ) → last ≤ t → (earlier : List Timed) → Each (IsWithin last) earlier → Each (λ x. issues_at t x ≡ false) earlier
 not_at t last le [] each = tt
@@ -44,9 +41,9 @@ pub free_slot :
 unfolding has_slot
 free_slot w earlier class t widths timed le =
     let none : filter (λ x. issues_at t x) earlier ≡ [] =
-    none_left (issues_at t) earlier (not_at t (last_of earlier) le earlier timed.each) in
+    filter_none (issues_at t) earlier (not_at t (last_of earlier) le earlier timed.each) in
     let alike : filter (λ x. issues_alike class t x) earlier ≡ [] =
-    none_left (issues_alike class t) earlier (not_alike class t (last_of earlier) le earlier timed.each) in
+    filter_none (issues_alike class t) earlier (not_alike class t (last_of earlier) le earlier timed.each) in
     let wide : nat_lt 0 w.issue ≡ true = lt-ltb 0 w.issue (omega (arith, widths.issue.0)) in
     let limited : nat_lt 0 (limit_of w class) ≡ true = lt-ltb 0 (limit_of w class) (limit_positive w class widths) in
     rw (none, alike) (rw (wide, limited) refl)
@@ -131,26 +128,3 @@ first_slot_is w earlier class ready t least =
           let late : nat_le ready k ≡ true = le-leb ready k from in
           rw late at (least.first k below);
     }
-
-not_before :
-    (w : Widths) (earlier : List Timed) (class : Class) (ready t k : ℕ) → IsFirst (has_slot w earlier class) ready t
-    → k < t → may_issue w earlier class ready k ≡ false
-not_before w earlier class ready t k is below =
-    elim (cases_lt k ready) [
-      | inl lt ↦ rw (lt-leb ready k lt) refl
-      | inr ge ↦ rw (le-leb ready k ge, is.first k ge below) refl
-    ]
-
--- the first cycle with a slot is the issue time
-pub first_is_issue :
-    (w : Widths) (earlier : List Timed) (class : Class) (ready t : ℕ) → AreWidths w → AreTimed earlier
-    → IsFirst (has_slot w earlier class) ready t → issue_of w earlier class ready ≡ t
-first_is_issue w earlier class ready t widths timed is =
-    let free : has_slot w earlier class (free_of earlier ready) ≡ true =
-    free_slot w earlier class (free_of earlier ready) widths timed (omega arith) in
-    let end : t ≤ free_of earlier ready =
-    elim (cases_lt (free_of earlier ready) t) [
-      | inl lt ↦ absurd (false≢true (sym (is.first (free_of earlier ready) (omega arith) lt) ∙ free))
-      | inr ge ↦ ge
-    ] in
-    issue_found w earlier class ready t is.start end (λ k below. not_before w earlier class ready t k is below) is.passes

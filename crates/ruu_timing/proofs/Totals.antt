@@ -1,20 +1,21 @@
 -- The times of the first instructions of a trace, and the cycles between two of them.
-use Rattle.std.proofs.Common.{◌≡◌, ◌+◌, ◌-◌, ◌*◌, ◌^◌, ◌<◌, ◌≤◌, ℕ, suc, List, [], ◌∷◌, ◌++◌, length, take, drop, All, Some, refl, sym, ◌∙◌, ap, subst, arith}
-use Rattle.std.specs.List.{slice_get}
-use Rattle.std.proofs.lemmas.List.{take_more, take_all, length-take-le, length-drop, take-append-drop}
+use Rattle.std.proofs.Common.{All, List, Some, ap, arith, drop, length, refl, subst, suc, sym, take, ℕ, ◌≡◌, ◌+◌, ◌-◌, ◌*◌, ◌^◌, ◌<◌, ◌≤◌, [], ◌∷◌, ◌++◌, ◌∙◌}
+use Rattle.std.proofs.lemmas.List.{length-drop, length-take-le, take-append-drop, take_all, take_more}
 use Rattle.std.proofs.lemmas.List.Elements.{All-get_or}
-use Rattle.std.proofs.lemmas.Option.{slice_get_within, get_or_from_slice_get}
+use Rattle.std.proofs.lemmas.Option.{get_or_from_slice_get, slice_get_within}
+use Rattle.std.specs.List.{slice_get}
+use Rattle.hierarchy.specs.Marked.{IsMarked}
+use Rattle.hierarchy.specs.Widths.{AreWidths}
 use Rattle.hierarchy.specs.declared.marked.Marked.{Marked}
 use Rattle.hierarchy.specs.declared.widths.Widths.{Widths}
-use Rattle.hierarchy.specs.Marked.{IsMarked}
-use Rattle.ruu_timing.specs.declared.timed.Timed.{Timed}
-use Rattle.hierarchy.specs.Widths.{AreWidths}
 use Rattle.ruu_timing.specs.Laws.{IssuesAtFirst}
-use Rattle.ruu_timing.proofs.Slots.{issue_is_least, first_slot_is}
-use Rattle.ruu_timing.specs.Times.{back, time_of, issue_of, timed_of, timed_after, times, cycles}
-use Rattle.ruu_timing.specs.Rows.{Each, AreTimed}
+use Rattle.ruu_timing.specs.Rows.{AreTimed, Each}
+use Rattle.ruu_timing.specs.Times.{back, cycles, issue_of, time_of, timed_after, timed_of, times}
+use Rattle.ruu_timing.specs.declared.timed.Timed.{Timed}
 use Rattle.ruu_timing.proofs.Bounds.{retired, retired_in_order, retired_soon, retired_wide}
-use Rattle.ruu_timing.proofs.Nexts.{next_timed, times_behind, length_after}
+use Rattle.ruu_timing.proofs.Elements.{each_of}
+use Rattle.ruu_timing.proofs.Nexts.{length_after, next_timed, times_behind}
+use Rattle.ruu_timing.proofs.Slots.{first_slot_is, issue_is_least}
 
 pub times_more :
     (w : Widths) (ms : List Marked) (i : ℕ) (m : Marked) → slice_get ms i ≡ Some m
@@ -74,11 +75,6 @@ after_timed w earlier [] widths timed few marks = timed
 after_timed w earlier (m ∷ ms) widths timed few marks =
     after_timed w (timed_of w earlier m ∷ earlier) ms widths
     (next_timed w earlier m widths marks.0 timed (omega arith)) (omega arith) marks.1
-
-pub each_of : {X : Type 0} (P : X → Type 0) (xs : List X) → All P xs → Each P xs
-each_of P [] all = tt
-each_of P (x ∷ xs) all =
-    (all 0 x (omega arith), each_of P xs (λ k d below. all (suc k) d (omega arith)))
 
 pub issues_at_first : IssuesAtFirst
 issues_at_first w ms class ready widths few marks =

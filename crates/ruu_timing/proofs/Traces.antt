@@ -1,18 +1,18 @@
 -- The cycles of a trace, from an empty processor on.
-use Rattle.std.proofs.Common.{◌≡◌, ◌-◌, ◌<◌, ◌≤◌, ℕ, zero, suc, List, All, length, take, refl, sym, ◌∙◌, ap, subst, arith}
-use Rattle.std.proofs.lemmas.List.{take_all, length-replicate, get_or-replicate}
+use Rattle.std.proofs.Common.{All, List, ap, arith, length, refl, subst, suc, sym, take, zero, ℕ, ◌≡◌, ◌-◌, ◌<◌, ◌≤◌, ◌∙◌}
+use Rattle.std.proofs.lemmas.List.{get_or-replicate, length-replicate, take_all}
+use Rattle.hierarchy.specs.Marked.{IsMarked}
+use Rattle.hierarchy.specs.Widths.{AreWidths}
 use Rattle.hierarchy.specs.declared.marked.Marked.{Marked}
 use Rattle.hierarchy.specs.declared.widths.Widths.{Widths}
-use Rattle.hierarchy.specs.Widths.{AreWidths}
-use Rattle.hierarchy.specs.Marked.{IsMarked}
-use Rattle.ruu_timing.specs.declared.pipeline.Pipeline.{Pipeline}
-use Rattle.ruu_timing.specs.declared.timed.Timed.{Timed}
 use Rattle.ruu_timing.specs.Pipeline.{IsCount, IsDone, IsEmpty, IsHeld, IsSized}
 use Rattle.ruu_timing.specs.Rows.{AreTimed}
 use Rattle.ruu_timing.specs.Schedule.{retirement_of, timed_at}
 use Rattle.ruu_timing.specs.Times.{times}
+use Rattle.ruu_timing.specs.declared.pipeline.Pipeline.{Pipeline}
+use Rattle.ruu_timing.specs.declared.timed.Timed.{Timed}
 use Rattle.ruu_timing.proofs.Listed.{listed}
-use Rattle.ruu_timing.proofs.Schedules.{times_listed, timed_to}
+use Rattle.ruu_timing.proofs.Schedules.{timed_to, times_listed}
 use Rattle.ruu_timing.proofs.Totals.{AreCycles, cycles_between, retired_back}
 
 none_counted : (n : ℕ) (time : ℕ → ℕ) (count : ℕ) → count ≡ 0 → IsCount n time count 0 0

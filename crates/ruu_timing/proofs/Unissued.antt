@@ -1,11 +1,10 @@
 -- The numbers of the instructions that haven't issued.
-use Rattle.std.proofs.Common.{◌≡◌, ◌+◌, ◌-◌, ◌<◌, ◌≤◌, ◌==◌, ℕ, zero, suc, nat_le, true, false, cond, List, [], ◌∷◌, ◌++◌, length, get_or, drop, refl, ◌∙◌, ap, subst, arith, inl, inr}
-use Rattle.std.proofs.lemmas.Bool.{cases_lt, le-leb, lt-leb, ne_eqb}
-use Rattle.rv_isa.specs.declared.roles.Class.{Class}
-use Rattle.ruu_timing.specs.declared.timed.Timed.{Timed}
+use Rattle.std.proofs.Common.{Bool, List, ap, arith, cond, drop, false, get_or, inl, inr, length, nat_le, refl, subst, suc, true, zero, ℕ, ◌≡◌, ◌+◌, ◌-◌, ◌<◌, ◌≤◌, [], ◌∷◌, ◌++◌, ◌∙◌, if◌then◌else◌}
+use Rattle.std.proofs.lemmas.Bool.{cases_lt, le-leb, lt-leb}
+use Rattle.std.proofs.lemmas.List.{append-nil}
 use Rattle.ruu_timing.specs.Pipeline.{unissued}
-use Rattle.ruu_timing.specs.Schedule.{issued_in, alike_in}
-use Rattle.ruu_timing.specs.Times.{issues_alike}
+use Rattle.ruu_timing.specs.Rows.{Each}
+use Rattle.ruu_timing.specs.declared.timed.Timed.{Timed}
 
 -- one that issues from the cycle on, and one that issues before
 pub unissued_late :
@@ -111,23 +110,60 @@ unissued_same x u v from zero same = refl
 unissued_same x u v from (suc k) same =
     rw (same from (omega arith) (omega arith), unissued_same x u v (suc from) k (λ i start end. same i (omega arith) (omega arith))) refl
 
--- counts of those that issue in a cycle pass over those that don't
-pub issued_over :
-    (x : ℕ → Timed) (t k m : ℕ) → ((i : ℕ) → k ≤ i → i < k + m → (x i).issue < t) → issued_in x t (k + m) ≡ issued_in x t k
-issued_over x t k zero early = let e : k + 0 ≡ k = omega arith in rw e refl
-issued_over x t k (suc m) early =
-    let e : k + suc m ≡ suc (k + m) = omega arith in
-    let other : ((x (k + m)).issue == t) ≡ false =
-    ne_eqb (x (k + m)).issue t (λ same. let h : (x (k + m)).issue < t = early (k + m) (omega arith) (omega arith) in omega arith) in
-    rw (e, other) (issued_over x t k m (λ i start end. early i start (omega arith)))
+-- those of the first ones, and of the others
+unissued_split : (x : ℕ → Timed) (v k m : ℕ) → unissued x v 0 (k + m) ≡ unissued x v 0 k ++ unissued x v k m
+unissued_split x v k m =
+    let e : 0 + k ≡ k = omega arith in
+    subst (λ n. unissued x v 0 (k + m) ≡ unissued x v 0 k ++ unissued x v n m) e (unissued_both x v 0 k m)
 
-pub alike_over :
-    (x : ℕ → Timed) (class : Class) (t k m : ℕ) → ((i : ℕ) → k ≤ i → i < k + m → (x i).issue < t)
-    → alike_in x class t (k + m) ≡ alike_in x class t k
-alike_over x class t k zero early = let e : k + 0 ≡ k = omega arith in rw e refl
-alike_over x class t k (suc m) early =
-    let e : k + suc m ≡ suc (k + m) = omega arith in
-    let other : ((x (k + m)).issue == t) ≡ false =
-    ne_eqb (x (k + m)).issue t (λ same. let h : (x (k + m)).issue < t = early (k + m) (omega arith) (omega arith) in omega arith) in
-    let none : issues_alike class t (x (k + m)) ≡ false = rw other refl in
-    rw (e, none) (alike_over x class t k m (λ i start end. early i start (omega arith)))
+-- none of those between two places
+pub unissued_over :
+    (x : ℕ → Timed) (v k j : ℕ) → k ≤ j → ((i : ℕ) → k ≤ i → i < j → (x i).issue < v) → unissued x v 0 j ≡ unissued x v 0 k
+unissued_over x v k j le early =
+    let f : k + (j - k) ≡ j = omega arith in
+    let none : unissued x v k (j - k) ≡ [] = unissued_no x v k (j - k) (λ i start end. early i start (omega arith)) in
+    subst (λ n. unissued x v 0 n ≡ unissued x v 0 k) f
+    (unissued_split x v k (j - k) ∙ (ap (λ l. unissued x v 0 k ++ l) none ∙ append-nil (unissued x v 0 k)))
+
+-- the first ones and one more, and none of those between
+pub unissued_through :
+    (x : ℕ → Timed) (v k j : ℕ) → k ≤ j → ((i : ℕ) → k ≤ i → i < j → (x i).issue < v)
+    → unissued x v 0 (suc j) ≡ unissued x v 0 k ++ unissued x v j 1
+unissued_through x v k j le early =
+    let e : j + 1 ≡ suc j = omega arith in
+    let last : unissued x v 0 (suc j) ≡ unissued x v 0 j ++ unissued x v j 1 =
+    subst (λ n. unissued x v 0 n ≡ unissued x v 0 j ++ unissued x v j 1) e (unissued_split x v j 1) in
+    last ∙ ap (λ l. l ++ unissued x v j 1) (unissued_over x v k j le early)
+
+-- one more that waits
+pub waiting_next :
+    (x : ℕ → Timed) (v i : ℕ) → v ≤ (x i).issue → unissued x v 0 (i + 1) ≡ unissued x v 0 i ++ (i + 1) ∷ []
+waiting_next x v i late =
+    let e : i + 1 ≡ suc i = omega arith in
+    let last : unissued x v i 1 ≡ (i + 1) ∷ [] = rw e (unissued_late x v i 0 late) in
+    unissued_split x v i 1 ∙ ap (λ l. unissued x v 0 i ++ l) last
+
+-- their numbers are no larger than how many there are
+pub unissued_le : (x : ℕ → Timed) (v from k most : ℕ) → from + k ≤ most → Each (λ number. number ≤ most) (unissued x v from k)
+unissued_le x v from zero most le = tt
+unissued_le x v from (suc k) most le =
+    let rest : Each (λ number. number ≤ most) (unissued x v (suc from) k) = unissued_le x v (suc from) k most (omega arith) in
+    elim (nat_le v (x from).issue) as (λ b. Each (λ number. number ≤ most) (if b then suc from ∷ unissued x v (suc from) k else unissued x v (suc from) k)) [
+      | true ↦ (omega arith, rest)
+      | false ↦ rest
+    ]
+
+-- no more wait than there are
+waiting_few : (x : ℕ → Timed) (v from k : ℕ) → length (unissued x v from k) ≤ k
+waiting_few x v from zero = omega arith
+waiting_few x v from (suc k) = few (nat_le v (x from).issue) (unissued x v (suc from) k) (waiting_few x v (suc from) k)
+  where
+    few : (b : Bool) (xs : List ℕ) → length xs ≤ k → length (cond b (suc from ∷ xs) xs) ≤ suc k
+    few true xs le = omega arith
+    few false xs le = omega arith
+
+-- where the first ones have all issued, no more wait than there are others
+pub waiting_late :
+    (x : ℕ → Timed) (v k rest : ℕ) → ((j : ℕ) → j < k → (x j).issue < v) → length (unissued x v 0 (k + rest)) ≤ rest
+waiting_late x v k rest early =
+    rw (unissued_split x v k rest, unissued_no x v 0 k (λ i start end. early i (omega arith))) (waiting_few x v k rest)

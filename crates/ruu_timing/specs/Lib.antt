@@ -1,9 +1,12 @@
 pub mod Class
-pub mod Laws
-pub mod Pipeline
+pub mod Times
 pub mod Rows
+pub mod Laws
+pub mod Trace
 pub mod Scalar
 pub mod Schedule
-pub mod Steps
-pub mod Times
-pub mod Trace
+pub mod Pipeline
+pub mod Retire
+pub mod Issue
+pub mod Dispatch
+pub mod Fetch

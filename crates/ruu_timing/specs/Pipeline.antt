@@ -1,5 +1,5 @@
 -- What the processor holds in a cycle, by the times of all instructions of the trace.
-use Rattle.std.specs.Prelude.{◌≡◌, ◌⊎◌, ◌<◌, ◌≤◌, ℕ, zero, suc, ◌+◌, ◌-◌, ◌^◌, nat_le, if◌then◌else◌, false, None, List, [], ◌∷◌, length, get_or, replicate, vec_capacity}
+use Rattle.std.specs.Prelude.{◌≡◌, ◌⊎◌, ◌<◌, ◌≤◌, ℕ, zero, suc, ◌+◌, ◌-◌, ◌^◌, nat_le, if◌then◌else◌, false, None, List, [], ◌∷◌, length, get_or, replicate, vec_capacity, min}
 use Rattle.std.specs.Option.{IfSome}
 use Rattle.circular_buffer.specs.Buffer.{buffer}
 use Rattle.hierarchy.specs.declared.marked.Marked.{Marked}
@@ -13,6 +13,10 @@ use Rattle.ruu_timing.specs.Class.{is_store, is_ecall}
 use Rattle.ruu_timing.specs.Rows.{Each}
 use Rattle.ruu_timing.specs.Schedule.{nothing, completion_of, retirement_of, last_writer, writer_of, awaited_store, begin_at}
 use Rattle.ruu_timing.specs.Times.{accesses}
+
+-- when an instruction in the register update unit completes, as far as is known
+abbrev pub completes : Slot → ℕ
+completes slot = min (slot.issue + slot.latency) (2 ^ 64 - 1)
 
 -- of the n instructions the first `count` have their time before `past`, and the others none before `from`
 pub record IsCount (n : ℕ) (time : ℕ → ℕ) (count from past : ℕ) : Type 0 where
@@ -47,6 +51,7 @@ abbrev pub Placed : (ℕ → Slot → Type 0) → ℕ → List Slot → Type 0
 Placed P from [] = Unit {0}
 Placed P from (slot ∷ slots) = P (from + length slots) slot × Placed P from slots
 
+-- a load or store as it stands in the load and store queue
 abbrev pub access_of : ℕ → Timed → Access
 access_of number x = record { number = number; word = x.mark.word; is_store = is_store x.mark.class }
 
@@ -63,6 +68,7 @@ unissued x v from zero = []
 unissued x v from (suc k) =
     if nat_le v (x from).issue then suc from ∷ unissued x v (suc from) k else unissued x v (suc from) k
 
+-- what the fetch behind the first so many instructions may wait for
 abbrev pub latest_of : (ℕ → Timed) → ℕ → Latest
 latest_of x zero = record { fetch = 0; is_transferred = false; is_mispredicted = false; is_call = false }
 latest_of x (suc i) = record {

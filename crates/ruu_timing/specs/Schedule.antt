@@ -45,6 +45,7 @@ abbrev pub completion_of : (ℕ → Timed) → ℕ → ℕ
 completion_of x zero = 0
 completion_of x (suc i) = (x i).completion
 
+-- and when it is retired
 abbrev pub retirement_of : (ℕ → Timed) → ℕ → ℕ
 retirement_of x zero = 0
 retirement_of x (suc i) = (x i).retirement
@@ -59,10 +60,12 @@ abbrev pub last_store : (ℕ → Timed) → ℕ → ℕ → ℕ
 last_store x word zero = 0
 last_store x word (suc i) = if stores_to word (x i) then suc i else last_store x word i
 
+-- the last writer of a register that is read, if one is
 abbrev pub writer_of : (ℕ → Timed) → ℕ → Option ℕ → ℕ
 writer_of x i None = 0
 writer_of x i (Some register) = last_writer x register i
 
+-- the last store to a word that is accessed, if one is
 abbrev pub store_of : (ℕ → Timed) → ℕ → Option ℕ → ℕ
 store_of x i None = 0
 store_of x i (Some word) = last_store x word i
@@ -87,6 +90,7 @@ access_ago x zero k = 0
 access_ago x (suc i) k =
     if accesses (x i) then (if nat_le k 1 then (x i).retirement else access_ago x i (k - 1)) else access_ago x i k
 
+-- when the i-th instruction may be fetched by what the one before it is
 abbrev pub next_at : Widths → (ℕ → Timed) → ℕ → ℕ
 next_at w x zero = 0
 next_at w x (suc i) = next_fetch w (x i)
@@ -96,6 +100,8 @@ unfoldable pub begin_at : Widths → (ℕ → Timed) → ℕ → ℕ
 begin_at w x i =
     max (next_at w x i) (max (ago (λ j. (x j).dispatch) i w.queue) (ago (λ j. (x j).fetch + 1) i w.fetch))
 
+-- after the fetch, in order, by the dispatch width, and when there is a place in the register update unit, in the
+-- load and store queue for a load or store, and, for an ECALL, when all before it are retired
 unfoldable pub dispatch_at : Widths → (ℕ → Timed) → ℕ → ℕ
 dispatch_at w x i =
     max (max ((x i).fetch + 1) (max (ago (λ j. (x j).dispatch) i 1) (ago (λ j. (x j).dispatch + 1) i w.dispatch)))
@@ -103,15 +109,18 @@ dispatch_at w x i =
     (max (if accesses_memory (x i).mark.class then access_ago x i w.lsq else 0)
     (if is_ecall (x i).mark.class then ago (λ j. (x j).retirement) i 1 else 0)))
 
+-- after the dispatch, when the registers and the word that it reads have been written
 unfoldable pub ready_at : (ℕ → Timed) → ℕ → ℕ
 ready_at x i =
     max (max ((x i).dispatch + 1) (completion_of x (awaited_store x i)))
     (max (completion_of x (writer_of x i (x i).mark.first)) (completion_of x (writer_of x i (x i).mark.second)))
 
+-- in a cycle fewer than the issue width of those before it issue, and fewer of its class than may
 unfoldable pub has_place : Widths → (ℕ → Timed) → ℕ → ℕ → Bool
 has_place w x i t =
     nat_lt (issued_in x t i) w.issue && nat_lt (alike_in x (x i).mark.class t i) (limit_of w (x i).mark.class)
 
+-- after the completion, in order, and by the retirement width
 unfoldable pub retirement_at : Widths → (ℕ → Timed) → ℕ → ℕ
 retirement_at w x i =
     max ((x i).completion + 1)

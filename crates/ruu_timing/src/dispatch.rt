@@ -5,7 +5,7 @@ ghost use Rattle.hierarchy.specs.Widths.{AreWidths};
 ghost use Rattle.ruu_timing.specs.declared.timed.Timed.{Timed};
 ghost use Rattle.ruu_timing.specs.Pipeline.{IsDone, IsPipeline, HasReserve};
 ghost use Rattle.ruu_timing.specs.Schedule.{IsSchedule};
-ghost use Rattle.ruu_timing.specs.Steps.{access_stores, has_place_for, slot_of, store_in, source_in, written_by, HasDispatched, HasEntered, IsRegister};
+ghost use Rattle.ruu_timing.specs.Dispatch.{access_stores, has_place_for, slot_of, store_in, source_in, written_by, HasDispatched, HasEntered, IsRegister};
 
 use crate::class::{accesses_memory, is_ecall, is_load, is_store};
 use crate::pipeline::{Access, Pipeline, Slot};

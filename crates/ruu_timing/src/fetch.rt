@@ -6,7 +6,7 @@ ghost use Rattle.hierarchy.specs.Marked.{IsMarked};
 ghost use Rattle.ruu_timing.specs.declared.timed.Timed.{Timed};
 ghost use Rattle.ruu_timing.specs.Pipeline.{IsDone, IsPipeline};
 ghost use Rattle.ruu_timing.specs.Schedule.{IsSchedule, timed_at};
-ghost use Rattle.ruu_timing.specs.Steps.{arrival, last_completion, latest_is, may_begin, HasFetched};
+ghost use Rattle.ruu_timing.specs.Fetch.{arrival, last_completion, latest_is, may_begin, HasFetched};
 
 use crate::class::is_ecall;
 use crate::pipeline::{Latest, Pipeline};

@@ -5,7 +5,7 @@ ghost use Rattle.hierarchy.specs.Widths.{AreWidths};
 ghost use Rattle.ruu_timing.specs.declared.timed.Timed.{Timed};
 ghost use Rattle.ruu_timing.specs.Pipeline.{IsDone, IsPipeline, IsSafe};
 ghost use Rattle.ruu_timing.specs.Schedule.{IsSchedule};
-ghost use Rattle.ruu_timing.specs.Steps.{completion_in, has_room, issue_at, wait_of, wake_in, with_one_more, HasLooked, HasPut};
+ghost use Rattle.ruu_timing.specs.Issue.{completion_in, has_room, issue_at, wait_of, wake_in, with_one_more, HasLooked, HasPut};
 
 use crate::class::{limit_of, number_of};
 use crate::pipeline::{Pipeline, Slot};

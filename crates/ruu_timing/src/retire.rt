@@ -4,7 +4,7 @@ ghost use Rattle.hierarchy.specs.Widths.{AreWidths};
 ghost use Rattle.ruu_timing.specs.declared.timed.Timed.{Timed};
 ghost use Rattle.ruu_timing.specs.Pipeline.{IsDone, IsPipeline};
 ghost use Rattle.ruu_timing.specs.Schedule.{IsSchedule};
-ghost use Rattle.ruu_timing.specs.Steps.{HasRetired};
+ghost use Rattle.ruu_timing.specs.Retire.{HasRetired};
 
 use crate::class::accesses_memory;
 use crate::pipeline::Pipeline;

@@ -7,9 +7,9 @@ ghost use Rattle.ruu_timing.specs.Trace.{IsTrace};
 mod generated;
 mod rules;
 
-use super::*;
 use crate::class::accesses_memory;
 use crate::rows::Rows;
+use crate::{PlainRuu, Ruu, SliceTrace, Trace, scalar_time};
 use hierarchy::{Latencies, Marked, Widths};
 use rv_isa::Class;
 use std::alloc::Global;

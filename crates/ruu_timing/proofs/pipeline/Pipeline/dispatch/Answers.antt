@@ -2,7 +2,7 @@ use Rattle.std.proofs.Common.{◌+◌, ◌∙◌, true, false, subst, arith}
 use Rattle.hierarchy.specs.declared.widths.Widths.{Widths}
 use Rattle.ruu_timing.specs.declared.pipeline.Pipeline.{Pipeline}
 use Rattle.ruu_timing.specs.Pipeline.{IsDone}
-use Rattle.ruu_timing.specs.Steps.{HasDispatched}
+use Rattle.ruu_timing.specs.Dispatch.{HasDispatched}
 use Rattle.ruu_timing.proofs.Dispatching.{dispatching_more, dispatched_last, dispatched_full}
 use Rattle.ruu_timing.proofs.Reserves.{sound_kept, cycle_kept}
 use Rattle.ruu_timing.proofs.pipeline.Pipeline.dispatch.Goals as goal

@@ -4,7 +4,8 @@ use Rattle.hierarchy.specs.declared.widths.Widths.{Widths}
 use Rattle.ruu_timing.specs.declared.pipeline.Pipeline.{Pipeline}
 use Rattle.ruu_timing.specs.Pipeline.{IsDone}
 use Rattle.ruu_timing.specs.Schedule.{timed_at}
-use Rattle.ruu_timing.proofs.Fetching.{AreTimes, IsFetching, fetches_more, fetches_no_more, fetches_all}
+use Rattle.ruu_timing.proofs.Fetching.{AreTimes, fetches_more, fetches_no_more, fetches_all}
+use Rattle.ruu_timing.proofs.FetchTimes.{IsFetching}
 use Rattle.ruu_timing.proofs.Safety.{held_pipeline}
 use Rattle.ruu_timing.proofs.Schedules.{schedule_is, mark_is}
 use Rattle.ruu_timing.proofs.pipeline.Pipeline.fetch.Goals as goal

@@ -1,6 +1,6 @@
 use Rattle.std.proofs.Common.{◌≡◌, length}
 use Rattle.ruu_timing.specs.Schedule.{timed_at}
-use Rattle.ruu_timing.proofs.Fetching.{IsFetching}
+use Rattle.ruu_timing.proofs.FetchTimes.{IsFetching}
 use Rattle.ruu_timing.proofs.pipeline.Pipeline.fetch.Given as goal
 
 abbrev pub invariant-loop-count : goal.invariant-loop-count

@@ -1,9 +1,14 @@
-use Rattle.std.proofs.Common.{◌≡◌, ◌+◌, ◌<◌, ◌≤◌, ◌∷◌, ℕ, length, drop, set, vec_capacity, refl, ap, subst, ◌∙◌, arith}
+use Rattle.std.proofs.Common.{◌≡◌, ◌+◌, ◌<◌, ◌≤◌, ◌∷◌, ℕ, length, drop, set, vec_capacity, refl, ap, subst, ◌∙◌, arith, get_or}
 use Rattle.std.proofs.Math.ListN.{drop_of_length-le}
 use Rattle.std.proofs.lemmas.List.{length-set}
 use Rattle.ruu_timing.specs.declared.pipeline.Pipeline.{Pipeline}
 use Rattle.ruu_timing.specs.Pipeline.{IsPipeline}
-use Rattle.ruu_timing.proofs.Scans.{HasKept, IsAfter, looks_keeps, looked, scanned_waits, scanned_issues, kept_pipeline, put_pipeline, none_issues, scan_begins, scan_ends, no_counts, front_of, number_within}
+use Rattle.ruu_timing.proofs.ScanSafety.{HasKept, looks_keeps, kept_pipeline, put_pipeline}
+use Rattle.ruu_timing.proofs.Looked.{IsAfter, looked}
+use Rattle.ruu_timing.proofs.ScanSteps.{scanned_waits, scanned_issues}
+use Rattle.ruu_timing.proofs.ScanEnds.{none_issues, scan_begins, scan_ends}
+use Rattle.ruu_timing.proofs.IssueCounts.{no_counts}
+use Rattle.ruu_timing.proofs.Elements.{front_of, get_least}
 use Rattle.ruu_timing.proofs.pipeline.Pipeline.issue.Goals as goal
 use Rattle.ruu_timing.proofs.pipeline.Pipeline.issue.Goals.{then-look, else-look}
 
@@ -44,10 +49,12 @@ loop-i-preserved c =
     let within : c.loop-i.i < length p.waiting.items = omega (arith, inv.size, c.len-i-end.ensures, c.loop-i-test.true) in
     let front : number ∷ drop (c.loop-i.i + 1) p.waiting.items ≡ drop c.loop-i.i p.waiting.items =
     front_of p.waiting.items c.loop-i.i number within c.waiting_at-number.ensures in
+    let known : number ≡ get_or p.waiting.items c.loop-i.i 0 = c.waiting_at-number.ensures in
     let small : number ≤ q.dispatched =
     omega (
       arith,
-      number_within p.dispatched p.waiting.items c.loop-i.i number inv.pipeline.waiting within c.waiting_at-number.ensures,
+      get_least p.dispatched p.waiting.items c.loop-i.i inv.pipeline.waiting,
+      known,
       ap (λ a. a.dispatched) keeps.same,
     ) in
     elim c.if-look.branch [

@@ -2,7 +2,7 @@ use Rattle.std.proofs.Common.{◌≡◌, ◌+◌, ◌≤◌, ℕ, length}
 use Rattle.ruu_timing.specs.declared.timed.Timed.{Timed}
 use Rattle.ruu_timing.specs.Pipeline.{IsDone, IsPipeline}
 use Rattle.ruu_timing.specs.Schedule.{IsSchedule}
-use Rattle.ruu_timing.proofs.Scans.{IsScanning}
+use Rattle.ruu_timing.proofs.Looked.{IsScanning}
 use Rattle.ruu_timing.proofs.pipeline.Pipeline.issue.Given as goal
 
 abbrev pub invariant-loop-i : goal.invariant-loop-i

@@ -3,7 +3,7 @@ use Rattle.hierarchy.specs.declared.marked.Marked.{Marked}
 use Rattle.hierarchy.specs.declared.widths.Widths.{Widths}
 use Rattle.ruu_timing.specs.Pipeline.{IsCount}
 use Rattle.ruu_timing.specs.Schedule.{IsSchedule, retirement_of, timed_at}
-use Rattle.ruu_timing.proofs.Runs.{last_later, last_small, last_same, last_is, retirement_later}
+use Rattle.ruu_timing.proofs.Runs.{last_later, retirement_small, last_same, last_is, retirement_later}
 use Rattle.ruu_timing.proofs.Schedules.{schedule_is}
 use Rattle.ruu_timing.proofs.pipeline.Pipeline.run.Goals as goal
 
@@ -16,7 +16,7 @@ step-requires-clause-room g c =
       arith,
       last_later (length ms) (timed_at w ms) c.loop-self.self.retired c.loop-self.self.cycle c.args.count
           c.loop-self.invariant.done.retired c.loop-self-test.true c.requires.count,
-      last_small w (length ms) (timed_at w ms) c.args.count is c.requires.count,
+      retirement_small w (length ms) (timed_at w ms) c.args.count is c.requires.count,
     )
 
 pub loop-self-init : goal.loop-self-init

@@ -1,7 +1,8 @@
 use Rattle.std.proofs.Common.{◌^◌, reverse}
 use Rattle.ruu_timing.specs.Rows.{IsWithin, AreTimed}
 use Rattle.ruu_timing.specs.Times.{writes}
-use Rattle.ruu_timing.proofs.Bounds.{small, each_find, lent_small}
+use Rattle.ruu_timing.proofs.Bounds.{small, lent_small}
+use Rattle.ruu_timing.proofs.Elements.{each_find}
 use Rattle.ruu_timing.proofs.rows.Rows.last_writer.Goals as goal
 
 pub returns-clause-within : goal.returns-clause-within

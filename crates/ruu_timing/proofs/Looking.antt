@@ -1,23 +1,21 @@
--- The oldest first: what is known while the waiting instructions are looked at in a cycle.
-use Rattle.std.proofs.Common.{◌≡◌, ◌+◌, ◌-◌, ◌<◌, ◌≤◌, ◌&&◌, ℕ, zero, suc, nat_le, nat_lt, max, Bool, true, false, if◌then◌else◌, length, get_or, Option, Some, None, refl, sym, ◌∙◌, ap, subst, arith, inl, inr}
-use Rattle.std.proofs.lemmas.Bool.{cases_lt, le-leb, leb-true, ltb-true, ltb-false, and_parts, false≢true}
-use Rattle.std.proofs.lemmas.Option.{none-some, slice_get_past, slice_get_cases}
+-- One look at a waiting instruction, the oldest first: what is known then, and that what is found is right.
+use Rattle.std.proofs.Common.{Bool, None, Option, Some, ap, arith, false, inl, inr, length, max, nat_le, nat_lt, refl, subst, suc, sym, true, zero, ℕ, ◌≡◌, ◌+◌, ◌-◌, ◌<◌, ◌≤◌, ◌&&◌, if◌then◌else◌, ◌∙◌}
+use Rattle.std.proofs.lemmas.Bool.{and_parts, cases_lt, false≢true, le-leb, leb-true, ltb-false, ltb-true}
+use Rattle.std.proofs.lemmas.Option.{none-some, slice_get_cases, slice_get_past}
 use Rattle.std.specs.List.{slice_get}
 use Rattle.hierarchy.specs.declared.widths.Widths.{Widths}
-use Rattle.rv_isa.specs.declared.roles.Class.{Class}
+use Rattle.ruu_timing.specs.Laws.{IsFirst}
+use Rattle.ruu_timing.specs.Pipeline.{IsSlot, IsSource, Placed, completes}
+use Rattle.ruu_timing.specs.Schedule.{IsSchedule, alike_in, awaited_store, completion_of, has_place, issued_in, ready_at, writer_of}
+use Rattle.ruu_timing.specs.Issue.{completion_in, has_room, time_in, wait_of, wake_in}
 use Rattle.ruu_timing.specs.declared.issue.Issued.{Issued}
 use Rattle.ruu_timing.specs.declared.pipeline.Pipeline.{Pipeline}
 use Rattle.ruu_timing.specs.declared.pipeline.Slot.{Slot}
 use Rattle.ruu_timing.specs.declared.timed.Timed.{Timed}
-use Rattle.ruu_timing.specs.Class.{number_of, is_load}
-use Rattle.ruu_timing.specs.Laws.{IsFirst}
-use Rattle.ruu_timing.specs.Pipeline.{IsSource, IsSlot, Placed}
-use Rattle.ruu_timing.specs.Schedule.{IsSchedule, completion_of, writer_of, awaited_store, last_writer, last_store, ready_at, has_place, issued_in, alike_in, store_of}
-use Rattle.ruu_timing.specs.Steps.{completes, time_in, completion_in, wake_in, wait_of, has_room}
-use Rattle.ruu_timing.specs.Times.{writes, stores_to}
+use Rattle.ruu_timing.proofs.Awaited.{awaited_le, writer_le}
+use Rattle.ruu_timing.proofs.IssueCounts.{AreCounts, alike_over, issued_over}
 use Rattle.ruu_timing.proofs.Places.{placed_get}
 use Rattle.ruu_timing.proofs.Rising.{IsInOrder, in_order}
-use Rattle.ruu_timing.proofs.Unissued.{issued_over, alike_over}
 
 -- those before place k have been looked at, and those from there on haven't
 pub record IsLookedTo (x : ℕ → Timed) (t u k i : ℕ) (slot : Slot) : Type 0 where
@@ -134,31 +132,6 @@ source_known w n x t k j p by awaited number schedule window before earlier (inr
     let done : completion_of x awaited ≤ by = past.1 in
     rw (past.0, out_of_unit p 0 window.count (omega arith)) (nothing_known (completion_of x awaited) t (omega arith))
 
-either_most : (b : Bool) (x y n : ℕ) → x ≤ n → y ≤ n → (if b then x else y) ≤ n
-either_most true x y n first second = first
-either_most false x y n first second = second
-
--- the instructions that are waited for come before
-pub writer_before : (x : ℕ → Timed) (r i : ℕ) → last_writer x r i ≤ i
-writer_before x r zero = omega arith
-writer_before x r (suc i) = either_most (writes r (x i)) (suc i) (last_writer x r i) (suc i) (omega arith) (omega (arith, writer_before x r i))
-
-pub store_before : (x : ℕ → Timed) (word i : ℕ) → last_store x word i ≤ i
-store_before x word zero = omega arith
-store_before x word (suc i) = either_most (stores_to word (x i)) (suc i) (last_store x word i) (suc i) (omega arith) (omega (arith, store_before x word i))
-
-pub written_before : (x : ℕ → Timed) (i : ℕ) (r : Option ℕ) → writer_of x i r ≤ i
-written_before x i None = omega arith
-written_before x i (Some r) = writer_before x r i
-
-pub stored_before : (x : ℕ → Timed) (i : ℕ) (word : Option ℕ) → store_of x i word ≤ i
-stored_before x i None = omega arith
-stored_before x i (Some word) = store_before x word i
-
-pub awaited_before : (x : ℕ → Timed) (i : ℕ) → awaited_store x i ≤ i
-awaited_before x i =
-    either_most (is_load (x i).mark.class) (store_of x i (x i).mark.word) 0 i (stored_before x i (x i).mark.word) (omega arith)
-
 -- by when a waiting instruction is ready, as far as is known
 pub record IsReady (x : ℕ → Timed) (j wake t : ℕ) : Type 0 where
   pub most : wake ≤ (x j).issue
@@ -173,22 +146,17 @@ ready_known w n x t k j p slot schedule window is le =
     let start : ready_at x j ≤ (x j).issue = (schedule.issue j (omega (arith, window.below, window.within))).start in
     let first : IsKnown (completion_of x (writer_of x j (x j).mark.first)) (completion_in p slot.first) t =
     source_known w n x t k j p (x j).dispatch (writer_of x j (x j).mark.first) slot.first schedule window
-    (written_before x j (x j).mark.first) (omega arith) is.first in
+    (writer_le x j (x j).mark.first) (omega arith) is.first in
     let second : IsKnown (completion_of x (writer_of x j (x j).mark.second)) (completion_in p slot.second) t =
     source_known w n x t k j p (x j).dispatch (writer_of x j (x j).mark.second) slot.second schedule window
-    (written_before x j (x j).mark.second) (omega arith) is.second in
+    (writer_le x j (x j).mark.second) (omega arith) is.second in
     let store : IsKnown (completion_of x (awaited_store x j)) (completion_in p slot.store) t =
     source_known w n x t k j p (x j).dispatch (awaited_store x j) slot.store schedule window
-    (awaited_before x j) (omega arith) is.store in
+    (awaited_le x j) (omega arith) is.store in
     record {
       most = omega (arith, is.most, start, first.most, second.most, store.most);
       past = λ now. omega (arith, first.past (omega arith), second.past (omega arith), store.past (omega arith));
     }
-
--- the counts of the cycle's issues, at the instruction that is looked at
-pub record AreCounts (x : ℕ → Timed) (t k : ℕ) (issued : Issued) : Type 0 where
-  pub all : issued.all ≡ issued_in x t k
-  pub alike : (class : Class) → get_or issued.alike (number_of class) 0 ≡ alike_in x class t k
 
 pub room_known :
     (w : Widths) (n : ℕ) (x : ℕ → Timed) (t k j : ℕ) (p : Pipeline) (issued : Issued) (slot : Slot) → k ≤ j
@@ -196,13 +164,9 @@ pub room_known :
     → has_room w issued slot.class ≡ has_place w x j t
 unfolding has_place
 room_known w n x t k j p issued slot le window counts class =
-    let e : k + (j - k) ≡ j = omega arith in
-    let all : issued_in x t j ≡ issued_in x t k =
-    subst (λ i. issued_in x t i ≡ issued_in x t k) e
-    (issued_over x t k (j - k) (λ i start end. window.early i start (omega arith))) in
+    let all : issued_in x t j ≡ issued_in x t k = issued_over x t k j le window.early in
     let alike : alike_in x (x j).mark.class t j ≡ alike_in x (x j).mark.class t k =
-    subst (λ i. alike_in x (x j).mark.class t i ≡ alike_in x (x j).mark.class t k) e
-    (alike_over x (x j).mark.class t k (j - k) (λ i start end. window.early i start (omega arith))) in
+    alike_over x (x j).mark.class t k j le window.early in
     rw (class, counts.all, counts.alike (x j).mark.class, all, alike) refl
 
 -- what looking at an instruction finds is right

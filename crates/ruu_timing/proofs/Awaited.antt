@@ -1,0 +1,45 @@
+-- The instructions that others wait for: they come before, and those that are retired have completed.
+use Rattle.std.proofs.Common.{None, Option, Some, arith, inl, inr, suc, zero, ℕ, ◌+◌, ◌≤◌}
+use Rattle.hierarchy.specs.declared.widths.Widths.{Widths}
+use Rattle.ruu_timing.specs.Class.{is_load}
+use Rattle.ruu_timing.specs.Pipeline.{IsCount, IsSource}
+use Rattle.ruu_timing.specs.Schedule.{IsSchedule, awaited_store, completion_of, last_store, last_writer, store_of, writer_of}
+use Rattle.ruu_timing.specs.Times.{stores_to, writes}
+use Rattle.ruu_timing.specs.declared.timed.Timed.{Timed}
+use Rattle.ruu_timing.proofs.Choices.{either_le}
+use Rattle.ruu_timing.proofs.Rising.{in_order}
+
+-- they come before the one that waits
+pub last_writer_le : (x : ℕ → Timed) (register i : ℕ) → last_writer x register i ≤ i
+last_writer_le x register zero = omega arith
+last_writer_le x register (suc i) =
+    either_le (writes register (x i)) (suc i) (last_writer x register i) (suc i) (omega arith) (omega (arith, last_writer_le x register i))
+
+pub last_store_le : (x : ℕ → Timed) (word i : ℕ) → last_store x word i ≤ i
+last_store_le x word zero = omega arith
+last_store_le x word (suc i) =
+    either_le (stores_to word (x i)) (suc i) (last_store x word i) (suc i) (omega arith) (omega (arith, last_store_le x word i))
+
+pub writer_le : (x : ℕ → Timed) (i : ℕ) (register : Option ℕ) → writer_of x i register ≤ i
+writer_le x i None = omega arith
+writer_le x i (Some register) = last_writer_le x register i
+
+pub store_le : (x : ℕ → Timed) (i : ℕ) (word : Option ℕ) → store_of x i word ≤ i
+store_le x i None = omega arith
+store_le x i (Some word) = last_store_le x word i
+
+pub awaited_le : (x : ℕ → Timed) (i : ℕ) → awaited_store x i ≤ i
+awaited_le x i =
+    either_le (is_load (x i).mark.class) (store_of x i (x i).mark.word) 0 i (store_le x i (x i).mark.word) (omega arith)
+
+pub source_le : (x : ℕ → Timed) (by awaited number most : ℕ) → IsSource x by awaited number → awaited ≤ most → number ≤ most
+source_le x by awaited number most (inl same) le = omega arith
+source_le x by awaited number most (inr none) le = omega (arith, none.0)
+
+-- those that are retired have completed
+pub completed :
+    (w : Widths) (n : ℕ) (x : ℕ → Timed) (count t : ℕ) → IsSchedule w n x
+    → IsCount n (λ i. (x i).retirement) count (t + 1) (t + 1) → (number : ℕ) → number ≤ count → completion_of x number ≤ t
+completed w n x count t is retired zero le = omega arith
+completed w n x count t is retired (suc i) le =
+    omega (arith, retired.before i (omega arith), (in_order w n x i is (omega (arith, retired.within))).retirement)

@@ -1,0 +1,99 @@
+-- What the dispatch of one instruction does.
+use Rattle.std.specs.Prelude.{◌≡◌, ◌<◌, ℕ, ◌+◌, ◌==◌, ◌&&◌, ◌||◌, nat_lt, min, if◌then◌else◌, Bool, true, false, not, Option, Some, None, List, [], ◌∷◌, length, take, drop, get_or, slice_set, ◌++◌, vec_capacity}
+use Rattle.std.specs.Option.{IfSome}
+use Rattle.std.specs.List.{slice_get, find}
+use Rattle.circular_buffer.specs.Buffer.{buffer}
+use Rattle.rv_isa.specs.declared.roles.Class.{Class}
+use Rattle.hierarchy.specs.declared.marked.Marked.{Marked}
+use Rattle.hierarchy.specs.declared.widths.Widths.{Widths}
+use Rattle.hierarchy.specs.Marked.{accesses_memory}
+use Rattle.ruu_timing.specs.declared.pipeline.Access.{Access}
+use Rattle.ruu_timing.specs.declared.pipeline.Pipeline.{Pipeline}
+use Rattle.ruu_timing.specs.declared.pipeline.Slot.{Slot}
+use Rattle.ruu_timing.specs.Class.{is_load, is_store, is_ecall}
+use Rattle.ruu_timing.specs.Times.{is_given}
+
+-- there is room for one more instruction of a class
+abbrev pub has_place_for : Widths → Pipeline → Class → Bool
+has_place_for w p class =
+    nat_lt (length p.unit.items) w.ruu
+    && ((not (accesses_memory class) || nat_lt (length p.accesses.items) w.lsq)
+    && (not (is_ecall class) || (length p.unit.items == 0)))
+
+-- whether a load or store of the queue stores to a word
+abbrev pub access_stores : ℕ → Access → Bool
+access_stores word access = access.is_store && is_given access.word word
+
+-- the number of one that was looked for, or none
+abbrev pub number_in : Option Access → ℕ
+number_in None = 0
+number_in (Some access) = access.number
+
+-- the number of the latest of these that stores to a word
+abbrev pub store_in : List Access → Option ℕ → ℕ
+store_in accesses None = 0
+store_in accesses (Some word) = number_in (find (λ access. access_stores word access) accesses)
+
+-- the number of the last writer of a register, by the table of writers
+abbrev pub source_in : List ℕ → Option ℕ → ℕ
+source_in writers None = 0
+source_in writers (Some register) = get_or writers register 0
+
+-- the table where the instruction of a number is the last that writes a register
+abbrev pub written_by : List ℕ → Option ℕ → ℕ → List ℕ
+written_by writers None number = writers
+written_by writers (Some register) number = slice_set writers register number
+
+-- the place in the register update unit of an instruction that is dispatched
+abbrev pub slot_of : Pipeline → Marked → Slot
+slot_of p m = record {
+  class = m.class;
+  latency = m.latency;
+  first = source_in p.writers.items m.first;
+  second = source_in p.writers.items m.second;
+  store = if is_load m.class then store_in p.accesses.items m.word else 0;
+  issue = p.cycle + 1;
+}
+
+-- there are so many registers at most
+abbrev pub IsRegister : Option ℕ → Type 0
+IsRegister register = IfSome register (λ r. r < 256)
+
+-- an instruction has entered the register update unit
+pub record HasEntered (m : Marked) (old new : Pipeline) : Type 0 where
+  pub first : IsRegister m.first
+  pub second : IsRegister m.second
+  pub cycle : new.cycle ≡ old.cycle
+  pub fetched : new.fetched ≡ old.fetched
+  pub dispatched : new.dispatched ≡ old.dispatched + 1
+  pub retired : new.retired ≡ old.retired
+  pub arriving : new.arriving ≡ old.arriving
+  pub latest : new.latest ≡ old.latest
+  pub completion : new.completion ≡ old.completion
+  pub retirement : new.retirement ≡ old.retirement
+  pub queue : new.queue ≡ old.queue
+  pub unit : new.unit ≡ buffer (take old.unit.capacity (slot_of old m ∷ old.unit.items)) old.unit.capacity
+  pub accesses : new.accesses ≡
+      (if accesses_memory m.class
+      then buffer
+      (take old.accesses.capacity
+      (record { number = old.dispatched + 1; word = m.word; is_store = is_store m.class } ∷ old.accesses.items))
+      old.accesses.capacity
+      else old.accesses)
+  pub waiting : new.waiting.items ≡ old.waiting.items ++ (old.dispatched + 1) ∷ []
+  pub reserved : vec_capacity new.waiting ≡ vec_capacity old.waiting
+  pub wake : new.wake ≡ min old.wake (old.cycle + 1)
+  pub writers : new.writers.items ≡ written_by old.writers.items m.dest (old.dispatched + 1)
+
+-- there was a place for the next instruction of the fetch queue, and it entered the register update unit
+abbrev pub Dispatches : Widths → Pipeline → Pipeline → Option Marked → Type 0
+Dispatches w old new None = ⊥
+Dispatches w old new (Some m) =
+    (has_place_for w old m.class ≡ true)
+    × HasEntered m (record old { queue = buffer (drop 1 old.queue.items) old.queue.capacity }) new
+
+-- one was dispatched, or the fetch queue is empty or its next one has no place
+abbrev pub HasDispatched : Widths → Bool → Pipeline → Pipeline → Type 0
+HasDispatched w true old new = Dispatches w old new (slice_get old.queue.items 0)
+HasDispatched w false old new =
+    (new ≡ old) × IfSome (slice_get old.queue.items 0) (λ m. has_place_for w old m.class ≡ false)
