@@ -1,6 +1,6 @@
 -- Tests that say whether a time has come.
-use Rattle.std.proofs.Common.{Bool, arith, false, inl, inr, max, nat_le, nat_lt, not, refl, true, ℕ, ◌≡◌, ◌⊎◌, ◌+◌, ◌-◌, ◌<◌, ◌≤◌, ◌&&◌, ◌||◌, if◌then◌else◌}
-use Rattle.std.proofs.lemmas.Bool.{cases_lt, le-leb, le-ltb, lt-leb, lt-ltb}
+use Rattle.std.proofs.Common.{Bool, arith, false, inl, inr, max, nat_le, nat_lt, not, refl, true, ℕ, ◌≡◌, ◌⊎◌, ◌+◌, ◌-◌, ◌<◌, ◌≤◌, ◌&&◌, ◌||◌, ◌==◌, if◌then◌else◌}
+use Rattle.std.proofs.lemmas.Bool.{cases_eq, eq-eqb, ne_eqb, cases_lt, le-leb, le-ltb, lt-leb, lt-ltb}
 
 -- the test says whether a time has come by cycle t
 abbrev pub Tells : Bool → ℕ → ℕ → Type 0
@@ -28,6 +28,13 @@ tells_le a b m t below above =
     elim (cases_lt b a) [
       | inl lt ↦ rw (lt-leb a b lt) (above lt)
       | inr ge ↦ rw (le-leb a b ge) (below ge)
+    ]
+
+pub tells_none : (k m t : ℕ) → (k ≡ 0 → m ≤ t) → (1 ≤ k → t < m) → Tells (k == 0) m t
+tells_none k m t below above =
+    elim (cases_eq k 0) [
+      | inl e ↦ rw (eq-eqb k 0 e) (below e)
+      | inr other ↦ rw (ne_eqb k 0 other) (above (omega (arith, other)))
     ]
 
 -- the fetch behind a transfer

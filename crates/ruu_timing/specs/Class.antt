@@ -4,6 +4,7 @@ use Rattle.rv_isa.specs.declared.roles.Class.{Class}
 use Rattle.rv_isa.specs.declared.roles.Class.TheVariants.{Alu, Mul, Div, Load, Store, Control, Ecall}
 use Rattle.hierarchy.specs.declared.widths.Widths.{Widths}
 
+-- the classes by numbers from 0 on
 abbrev pub number_of : Class → ℕ
 number_of Alu = 0
 number_of Mul = 1

@@ -13,6 +13,7 @@ pub record IsFirst (test : ℕ → Bool) (ready t : ℕ) : Type 0 where
   pub passes : test t ≡ true
   pub first : (k : ℕ) → ready ≤ k → k < t → test k ≡ false
 
+-- behind any trace an instruction issues in the first cycle, from when it is ready, that has a slot for it
 abbrev pub IssuesAtFirst : Type 0
 IssuesAtFirst =
     (w : Widths) (ms : List Marked) (class : Class) (ready : ℕ)

@@ -4,6 +4,7 @@ use Rattle.std.specs.Prelude.{ℕ, ◌+◌, ◌<◌, ◌≤◌, List, [], ◌∷
 use Rattle.ruu_timing.specs.declared.timed.Timed.{Timed}
 use Rattle.ruu_timing.specs.Times.{back, time_of}
 
+-- what holds of each element of a list
 abbrev pub Each : {X : Type 0} → (X → Type 0) → List X → Type 0
 Each P [] = Unit {0}
 Each P (x ∷ xs) = P x × Each P xs
@@ -26,10 +27,12 @@ pub record IsRetiredAfter (earlier : List Timed) (x : Timed) : Type 0 where
   pub soon : x.retirement ≤ last_of earlier + 4096
   pub wide : time_of (λ y. y.retirement) (back earlier 16) < x.retirement
 
+-- so is each behind those before it
 abbrev pub AreInOrder : List Timed → Type 0
 AreInOrder [] = Unit {0}
 AreInOrder (x ∷ earlier) = IsRetiredAfter earlier x × AreInOrder earlier
 
+-- the times of so many instructions, the latest first
 pub record AreTimed (earlier : List Timed) : Type 0 where
   pub each : Each (IsWithin (last_of earlier)) earlier
   pub order : AreInOrder earlier

@@ -5,6 +5,7 @@ use Rattle.rv_isa.specs.declared.roles.Class.TheVariants.{Alu, Mul, Div, Load, S
 use Rattle.hierarchy.specs.declared.marked.Marked.{Marked}
 use Rattle.hierarchy.specs.declared.widths.Latencies.{Latencies}
 
+-- the cycles of one instruction
 abbrev pub scalar_latency : Latencies → Class → ℕ
 scalar_latency l Mul = l.mul
 scalar_latency l Div = l.div

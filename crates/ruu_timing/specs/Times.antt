@@ -15,6 +15,7 @@ use Rattle.ruu_timing.specs.Class.{is_load, is_store, is_ecall, is_same, limit_o
 abbrev pub back : List Timed → ℕ → Option Timed
 back earlier k = slice_get earlier (k - 1)
 
+-- a time of an instruction, or 0 where there is none
 abbrev pub time_of : (Timed → ℕ) → Option Timed → ℕ
 time_of time None = 0
 time_of time (Some x) = time x
@@ -61,9 +62,11 @@ abbrev pub is_given : Option ℕ → ℕ → Bool
 is_given None n = false
 is_given (Some m) n = m == n
 
+-- whether an instruction writes a register
 abbrev pub writes : ℕ → Timed → Bool
 writes register x = is_given x.mark.dest register
 
+-- whether it stores to a word
 abbrev pub stores_to : ℕ → Timed → Bool
 stores_to word x = is_store x.mark.class && is_given x.mark.word word
 
@@ -85,9 +88,11 @@ ready_of earlier m dispatch =
     max (max (dispatch + 1) (if is_load m.class then stored earlier m.word else 0))
     (max (written earlier m.first) (written earlier m.second))
 
+-- whether it issues in a cycle
 abbrev pub issues_at : ℕ → Timed → Bool
 issues_at t x = x.issue == t
 
+-- and is of a class
 abbrev pub issues_alike : Class → ℕ → Timed → Bool
 issues_alike class t x = x.issue == t && is_same x.mark.class class
 
@@ -111,6 +116,7 @@ retirement_of w earlier completion =
     (max (time_of (λ x. x.retirement) (back earlier 1))
     (time_of (λ x. x.retirement + 1) (back earlier w.retire)))
 
+-- all times of the instruction behind those
 unfoldable pub timed_of : Widths → List Timed → Marked → Timed
 timed_of w earlier m =
     let fetch = fetch_of w earlier m in
