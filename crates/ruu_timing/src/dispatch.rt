@@ -1,5 +1,5 @@
 //! Dispatch: in program order from the fetch queue to the register update unit, so many in a cycle.
-ghost use Rattle.std.specs.Prelude.{◌≡◌, ◌+◌, ◌≤◌, ◌<◌, ◌-◌, ◌^◌, ℕ, length, option_copied, true, vec_capacity, IfSome};
+ghost use Rattle.std.specs.Prelude.{◌≡◌, ◌+◌, ◌<◌, ◌-◌, ℕ, length, option_copied, true, vec_capacity};
 ghost use Rattle.std.specs.List.{find};
 ghost use Rattle.hierarchy.specs.Widths.{AreWidths};
 ghost use Rattle.ruu_timing.specs.declared.timed.Timed.{Timed};

@@ -1,11 +1,9 @@
 //! Fetch: in program order into the fetch queue, so many in a cycle.
-ghost use Rattle.std.specs.Prelude.{◌≡◌, ◌+◌, ◌≤◌, ◌<◌, ℕ, length, All};
-ghost use Rattle.std.specs.List.{slice_get};
+ghost use Rattle.std.specs.Prelude.{◌≡◌, ◌+◌, ◌≤◌, ◌<◌, length, All};
 ghost use Rattle.hierarchy.specs.Widths.{AreWidths};
 ghost use Rattle.hierarchy.specs.Marked.{IsMarked};
-ghost use Rattle.ruu_timing.specs.declared.timed.Timed.{Timed};
 ghost use Rattle.ruu_timing.specs.Pipeline.{IsDone, IsPipeline};
-ghost use Rattle.ruu_timing.specs.Schedule.{IsSchedule, timed_at};
+ghost use Rattle.ruu_timing.specs.Schedule.{timed_at};
 ghost use Rattle.ruu_timing.specs.Fetch.{arrival, last_completion, latest_is, may_begin, HasFetched};
 
 use crate::class::is_ecall;

@@ -1,6 +1,5 @@
 //! What the processor holds while a trace runs through it.
-ghost use Rattle.std.specs.Prelude.{◌≡◌, ◌+◌, ◌≤◌, ◌^◌, IfOk};
-ghost use Rattle.hierarchy.specs.Widths.{AreWidths};
+ghost use Rattle.std.specs.Prelude.{◌≡◌, IfOk};
 ghost use Rattle.ruu_timing.specs.Pipeline.{IsEmpty, IsSized, completes};
 
 use circular_buffer::HeapCircularBuffer;

@@ -1,10 +1,9 @@
-ghost use Rattle.std.specs.Prelude.{◌≡◌, ◌==◌, ◌&&◌, ◌+◌, ◌^◌, ◌<◌, ◌≤◌, ℕ, List, [], ◌∷◌, length, All, IfOk, IfSome, option_copied};
-ghost use Rattle.std.specs.List.{find, filter, slice_get};
+ghost use Rattle.std.specs.Prelude.{◌≡◌, ◌+◌, ◌^◌, ◌<◌, ◌≤◌, List, [], ◌∷◌, length, All, IfOk, IfSome, option_copied};
+ghost use Rattle.std.specs.List.{find, slice_get};
 ghost use Rattle.hierarchy.specs.Widths.{AreWidths};
 ghost use Rattle.hierarchy.specs.Marked.{IsMarked};
-ghost use Rattle.ruu_timing.specs.Class.{is_same, is_store};
 ghost use Rattle.ruu_timing.specs.Rows.{IsWithin, AreTimed};
-ghost use Rattle.ruu_timing.specs.Times.{back, time_of, next_fetch, fetch_of, dispatch_of, memory_ones, writes, stores_to, written, stored, ready_of, has_slot, issue_of, retirement_of, timed_of, times};
+ghost use Rattle.ruu_timing.specs.Times.{back, time_of, next_fetch, fetch_of, dispatch_of, memory_ones, writes, stores_to, written, stored, ready_of, issue_of, retirement_of, timed_of, times};
 
 use crate::class::{accesses_memory, is_ecall, is_load};
 use crate::earlier::{access_before, back, first_slot, last_store, last_writer};
