@@ -1,15 +1,14 @@
 -- The load and store queue: when a place in it is free, and which store a load finds there.
-use Rattle.std.proofs.Common.{Bool, List, ap, arith, cond, false, inl, inr, length, nat_le, refl, suc, true, zero, ℕ, ◌≡◌, ◌⊎◌, ◌+◌, ◌-◌, ◌<◌, ◌≤◌, ◌∷◌, if◌then◌else◌}
+use Rattle.std.proofs.Common.{Bool, List, ap, arith, cond, false, inl, inr, length, nat_le, refl, suc, true, zero, ℕ, ◌≡◌, ◌⊎◌, ◌+◌, ◌-◌, ◌<◌, ◌≤◌, ◌∷◌}
 use Rattle.std.proofs.lemmas.Bool.{and_parts, cases_lt, false≢true, le-leb, lt-leb}
 use Rattle.std.specs.List.{find}
 use Rattle.hierarchy.specs.Marked.{accesses_memory}
 use Rattle.rv_isa.specs.declared.roles.Class.{Class}
 use Rattle.rv_isa.specs.declared.roles.Class.TheVariants.{Alu, Control, Div, Ecall, Load, Mul, Store}
 use Rattle.ruu_timing.specs.Class.{is_store}
-use Rattle.ruu_timing.specs.Pipeline.{IsSource, access_of, accesses_from}
-use Rattle.ruu_timing.specs.Rows.{Each}
+use Rattle.ruu_timing.specs.Pipeline.{access_of, accesses_from}
 use Rattle.ruu_timing.specs.Schedule.{access_ago, completion_of, last_store}
-use Rattle.ruu_timing.specs.Dispatch.{access_stores, number_in}
+use Rattle.ruu_timing.specs.Dispatch.{access_stores, completion_in}
 use Rattle.ruu_timing.specs.Times.{accesses, stores_to}
 use Rattle.ruu_timing.specs.declared.pipeline.Access.{Access}
 use Rattle.ruu_timing.specs.declared.timed.Timed.{Timed}
@@ -43,7 +42,7 @@ access_done x t from zero done lsq few = access_early x t (from + 0) lsq (λ j b
 access_done x t from (suc k) done lsq few =
     let e : from + suc k ≡ suc (from + k) = omega arith in
     rw e
-    (done_more (accesses (x (from + k))) (accesses_from x from k) (access_of (suc (from + k)) (x (from + k))) lsq
+    (done_more (accesses (x (from + k))) (accesses_from x from k) (access_of (x (from + k))) lsq
     (x (from + k)).retirement t (access_ago x (from + k)) (access_done x t from k done) few)
 
 waits_more :
@@ -66,7 +65,7 @@ access_waits x t from zero waits lsq some many = absurd (omega arith)
 access_waits x t from (suc k) waits lsq some many =
     let e : from + suc k ≡ suc (from + k) = omega arith in
     rw e
-    (waits_more (accesses (x (from + k))) (accesses_from x from k) (access_of (suc (from + k)) (x (from + k))) lsq
+    (waits_more (accesses (x (from + k))) (accesses_from x from k) (access_of (x (from + k))) lsq
     (x (from + k)).retirement t (access_ago x (from + k))
     (access_waits x t from k (λ j le below. waits j le (omega arith)))
     (waits (from + k) (omega arith) (omega arith)) some many)
@@ -81,53 +80,47 @@ store_accesses Control is = absurd (false≢true is)
 store_accesses Ecall is = absurd (false≢true is)
 
 -- what is found is the last of all, or nothing is found, and it came before the first of these
-abbrev pub Finds : List Access → (Access → Bool) → ℕ → ℕ → Type 0
-Finds xs test before last =
-    (number_in (find test xs) ≡ last) ⊎ ((number_in (find test xs) ≡ 0) × (last ≡ before))
+abbrev Finds : (ℕ → Timed) → List Access → (Access → Bool) → ℕ → ℕ → Type 0
+Finds x xs test before last =
+    (completion_in (find test xs) ≡ completion_of x last) ⊎ ((completion_in (find test xs) ≡ 0) × (last ≡ before))
 
 finds_more :
-    (b s : Bool) (xs : List Access) (test : Access → Bool) (a : Access) (before last number : ℕ) → test a ≡ s
-    → (s ≡ true → b ≡ true) → a.number ≡ number → Finds xs test before last
-    → Finds (cond b (a ∷ xs) xs) test before (cond s number last)
-finds_more true true xs test a before last number is is_there same finds = inl (rw is same)
-finds_more true false xs test a before last number is is_there same finds = rw is finds
-finds_more false true xs test a before last number is is_there same finds = absurd (false≢true (is_there refl))
-finds_more false false xs test a before last number is is_there same finds = finds
+    (x : ℕ → Timed) (b s : Bool) (xs : List Access) (test : Access → Bool) (a : Access) (before last number : ℕ) → test a ≡ s
+    → (s ≡ true → b ≡ true) → a.completion ≡ completion_of x number → Finds x xs test before last
+    → Finds x (cond b (a ∷ xs) xs) test before (cond s number last)
+finds_more x true true xs test a before last number is is_there same finds = inl (rw is same)
+finds_more x true false xs test a before last number is is_there same finds = rw is finds
+finds_more x false true xs test a before last number is is_there same finds = absurd (false≢true (is_there refl))
+finds_more x false false xs test a before last number is is_there same finds = finds
 
 finds_store :
     (x : ℕ → Timed) (word from k : ℕ)
-    → Finds (accesses_from x from k) (λ access. access_stores word access) (last_store x word from) (last_store x word (from + k))
+    → Finds x (accesses_from x from k) (λ access. access_stores word access) (last_store x word from) (last_store x word (from + k))
 finds_store x word from zero =
     let e : from + 0 ≡ from = omega arith in
     inr (refl, ap (λ i. last_store x word i) e)
 finds_store x word from (suc k) =
     let e : from + suc k ≡ suc (from + k) = omega arith in
     rw e
-    (finds_more (accesses (x (from + k))) (stores_to word (x (from + k))) (accesses_from x from k)
-    (λ access. access_stores word access) (access_of (suc (from + k)) (x (from + k))) (last_store x word from)
+    (finds_more x (accesses (x (from + k))) (stores_to word (x (from + k))) (accesses_from x from k)
+    (λ access. access_stores word access) (access_of (x (from + k))) (last_store x word from)
     (last_store x word (from + k)) (suc (from + k)) refl
     (λ is. store_accesses (x (from + k)).mark.class (and_parts _ _ is).0) refl (finds_store x word from k))
 
-source_found :
+-- a completion is known, or nothing is and it has come by a cycle
+abbrev pub IsKnown : ℕ → ℕ → ℕ → Type 0
+IsKnown by completion known = (known ≡ completion) ⊎ ((known ≡ 0) × (completion ≤ by))
+
+completion_found :
     (x : ℕ → Timed) (by : ℕ) (xs : List Access) (test : Access → Bool) (before last : ℕ)
-    → completion_of x before ≤ by → Finds xs test before last → IsSource x by last (number_in (find test xs))
-source_found x by xs test before last early (inl same) = inl same
-source_found x by xs test before last early (inr (none, same)) = inr (none, rw same early)
+    → completion_of x before ≤ by → Finds x xs test before last → IsKnown by (completion_of x last) (completion_in (find test xs))
+completion_found x by xs test before last early (inl same) = inl same
+completion_found x by xs test before last early (inr (none, same)) = inr (none, rw same early)
 
-pub store_source :
+pub store_known :
     (x : ℕ → Timed) (by word from k : ℕ) → ((number : ℕ) → number ≤ from → completion_of x number ≤ by)
-    → IsSource x by (last_store x word (from + k)) (number_in (find (λ access. access_stores word access) (accesses_from x from k)))
-store_source x by word from k early =
-    source_found x by (accesses_from x from k) (λ access. access_stores word access) (last_store x word from)
+    → IsKnown by (completion_of x (last_store x word (from + k)))
+    (completion_in (find (λ access. access_stores word access) (accesses_from x from k)))
+store_known x by word from k early =
+    completion_found x by (accesses_from x from k) (λ access. access_stores word access) (last_store x word from)
     (last_store x word (from + k)) (early (last_store x word from) (last_store_le x word from)) (finds_store x word from k)
-
--- their numbers are no larger than how many there are
-pub accesses_le :
-    (x : ℕ → Timed) (from k most : ℕ) → from + k ≤ most → Each (λ access. access.number ≤ most) (accesses_from x from k)
-accesses_le x from zero most le = tt
-accesses_le x from (suc k) most le =
-    let rest : Each (λ access. access.number ≤ most) (accesses_from x from k) = accesses_le x from k most (omega arith) in
-    elim (accesses (x (from + k))) as (λ b. Each (λ access. access.number ≤ most) (if b then access_of (suc (from + k)) (x (from + k)) ∷ accesses_from x from k else accesses_from x from k)) [
-      | true ↦ (omega arith, rest)
-      | false ↦ rest
-    ]

@@ -1,8 +1,8 @@
 -- The instructions that others wait for: they come before, and those that are retired have completed.
-use Rattle.std.proofs.Common.{None, Option, Some, arith, inl, inr, suc, zero, ℕ, ◌+◌, ◌≤◌}
+use Rattle.std.proofs.Common.{None, Option, Some, arith, suc, zero, ℕ, ◌+◌, ◌≤◌}
 use Rattle.hierarchy.specs.declared.widths.Widths.{Widths}
 use Rattle.ruu_timing.specs.Class.{is_load}
-use Rattle.ruu_timing.specs.Pipeline.{IsCount, IsSource}
+use Rattle.ruu_timing.specs.Pipeline.{IsCount}
 use Rattle.ruu_timing.specs.Schedule.{IsSchedule, awaited_store, completion_of, last_store, last_writer, store_of, writer_of}
 use Rattle.ruu_timing.specs.Times.{stores_to, writes}
 use Rattle.ruu_timing.specs.declared.timed.Timed.{Timed}
@@ -31,10 +31,6 @@ store_le x i (Some word) = last_store_le x word i
 pub awaited_le : (x : ℕ → Timed) (i : ℕ) → awaited_store x i ≤ i
 awaited_le x i =
     either_le (is_load (x i).mark.class) (store_of x i (x i).mark.word) 0 i (store_le x i (x i).mark.word) (omega arith)
-
-pub source_le : (x : ℕ → Timed) (by awaited number most : ℕ) → IsSource x by awaited number → awaited ≤ most → number ≤ most
-source_le x by awaited number most (inl same) le = omega arith
-source_le x by awaited number most (inr none) le = omega (arith, none.0)
 
 -- those that are retired have completed
 pub completed :

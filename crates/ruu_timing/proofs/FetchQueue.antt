@@ -1,12 +1,12 @@
 -- The fetch queue, and the next instruction that arrives at it.
-use Rattle.std.proofs.Common.{List, None, Option, Some, ap, arith, drop, length, length-append, refl, suc, zero, ℕ, ◌≡◌, ◌+◌, ◌-◌, ◌<◌, ◌≤◌, [], ◌∷◌, ◌++◌}
+use Rattle.std.proofs.Common.{List, None, Option, Some, ap, arith, drop, length, length-append, refl, suc, zero, ℕ, ◌≡◌, ◌+◌, ◌-◌, ◌<◌, ◌≤◌, ◌^◌, [], ◌∷◌, ◌++◌}
 use Rattle.std.proofs.lemmas.Option.{none-some, same_Some}
 use Rattle.std.specs.List.{slice_get}
 use Rattle.std.specs.Option.{IfSome}
 use Rattle.circular_buffer.specs.Buffer.{Buffer, buffer, keep_last}
 use Rattle.hierarchy.specs.declared.marked.Marked.{Marked}
 use Rattle.hierarchy.specs.declared.widths.Widths.{Widths}
-use Rattle.ruu_timing.specs.Pipeline.{IsArriving, IsHeld, marks_from}
+use Rattle.ruu_timing.specs.Pipeline.{IsArriving, IsHeld, IsPipeline, marks_from}
 use Rattle.ruu_timing.specs.declared.pipeline.Pipeline.{Pipeline}
 use Rattle.ruu_timing.specs.declared.timed.Timed.{Timed}
 
@@ -58,6 +58,18 @@ pub held_front :
     (w : Widths) (n : ℕ) (x : ℕ → Timed) (v : ℕ) (p : Pipeline) → IsHeld w n x v p
     → slice_get p.queue.items 0 ≡ slice_get (marks_from x p.dispatched (p.fetched - p.dispatched)) 0
 held_front w n x v p held = ap (λ b. slice_get b.items 0) held.queue
+
+-- what the processor holds, it holds safely
+pub held_pipeline :
+    (w : Widths) (n : ℕ) (x : ℕ → Timed) (v : ℕ) (p : Pipeline) → IsHeld w n x v p → n ≤ 110000 → p.cycle ≤ 2 ^ 33
+    → IsPipeline p
+held_pipeline w n x v p held few small = record {
+  cycle = small;
+  few = omega (arith, held.fetched);
+  queued = omega (arith, held.queued, queue_length w n x v p held);
+  order = omega (arith, held.count);
+  written = held.written;
+}
 
 -- what is known of the next arrival stays while others are dispatched
 pub arriving_kept :

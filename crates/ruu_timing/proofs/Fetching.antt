@@ -1,5 +1,5 @@
 -- The instructions that are fetched in a cycle.
-use Rattle.std.proofs.Common.{Bool, List, None, Option, Some, ap, arith, false, inl, inr, length, refl, subst, suc, sym, true, zero, ℕ, ◌≡◌, ◌≢◌, ◌⊎◌, ◌+◌, ◌<◌, ◌≤◌, ◌^◌, [], ◌∷◌}
+use Rattle.std.proofs.Common.{Bool, List, None, Option, Some, ap, arith, false, inl, inr, length, refl, subst, suc, sym, true, zero, ℕ, ◌≡◌, ◌≢◌, ◌⊎◌, ◌+◌, ◌<◌, ◌≤◌, [], ◌∷◌}
 use Rattle.std.proofs.lemmas.Bool.{cases_eq}
 use Rattle.std.proofs.lemmas.Option.{none-some, same_Some, slice_get_within}
 use Rattle.std.specs.List.{slice_get}
@@ -27,11 +27,11 @@ pub record AreTimes (w : Widths) (ms : List Marked) (x : ℕ → Timed) : Type 0
 -- an arrival is the next instruction's fetch
 pub arrives :
     (w : Widths) (ms : List Marked) (x : ℕ → Timed) (start count : ℕ) (p : Pipeline) (at : ℕ) → AreWidths w → AreTimes w ms x
-    → IsFetching w (length ms) x start p.cycle count p → count < w.fetch → p.cycle ≤ 2 ^ 33 → arrival w ms p ≡ Some at
+    → IsFetching w (length ms) x start p.cycle count p → count < w.fetch → arrival w ms p ≡ Some at
     → IsArriving w (length ms) x p at
-arrives w ms x start count p at widths are fetching room small there =
+arrives w ms x start count p at widths are fetching room there =
     go p.arriving (may_begin w p) (slice_get ms p.fetched) refl refl
-    (tells_begin w (length ms) x start count p widths are.schedule fetching room small) fetching.held.arriving there
+    (tells_begin w (length ms) x start count p widths are.schedule fetching room) fetching.held.arriving there
   where
     go :
         (arriving : Option ℕ) (begins : Bool) (found : Option Marked) → p.arriving ≡ arriving → slice_get ms p.fetched ≡ found
@@ -59,11 +59,11 @@ found_within (m ∷ ms) (suc i) e = omega (arith, found_within ms i e)
 -- none arrives
 pub waits :
     (w : Widths) (ms : List Marked) (x : ℕ → Timed) (start count : ℕ) (p : Pipeline) → AreWidths w → AreTimes w ms x
-    → IsFetching w (length ms) x start p.cycle count p → count < w.fetch → p.cycle ≤ 2 ^ 33 → arrival w ms p ≡ None
+    → IsFetching w (length ms) x start p.cycle count p → count < w.fetch → arrival w ms p ≡ None
     → p.fetched < length ms → p.cycle < begin_at w x p.fetched
-waits w ms x start count p widths are fetching room small none within =
+waits w ms x start count p widths are fetching room none within =
     go p.arriving (may_begin w p) (slice_get ms p.fetched) refl
-    (tells_begin w (length ms) x start count p widths are.schedule fetching room small) none
+    (tells_begin w (length ms) x start count p widths are.schedule fetching room) none
   where
     go :
         (arriving : Option ℕ) (begins : Bool) (found : Option Marked) → slice_get ms p.fetched ≡ found
@@ -100,12 +100,10 @@ fetches_one w ms x start count p m are fetching arriving found =
         capacity = held.capacity;
         unit = held.unit;
         accesses = held.accesses;
+        coming = held.coming;
+        reach = held.reach;
         written = held.written;
         writers = held.writers;
-        reserved = held.reserved;
-        waiting = held.waiting;
-        awake = held.awake;
-        idle = held.idle;
         latest = rw next (latest_more x p.fetched p.cycle m mark (sym arriving.fetch));
         completion = held.completion;
         retirement = held.retirement;
@@ -120,9 +118,9 @@ fetches_one w ms x start count p m are fetching arriving found =
 
 pub fetches_more :
     (w : Widths) (ms : List Marked) (x : ℕ → Timed) (start count : ℕ) (p q : Pipeline) → AreWidths w → AreTimes w ms x
-    → IsFetching w (length ms) x start p.cycle count p → count < w.fetch → p.cycle ≤ 2 ^ 33 → HasFetched w ms true p q
+    → IsFetching w (length ms) x start p.cycle count p → count < w.fetch → HasFetched w ms true p q
     → (q.cycle ≡ p.cycle) × IsFetching w (length ms) x start q.cycle (count + 1) q
-fetches_more w ms x start count p q widths are fetching room small has = go (slice_get ms p.fetched) refl has.1
+fetches_more w ms x start count p q widths are fetching room has = go (slice_get ms p.fetched) refl has.1
   where
     go :
         (found : Option Marked) → slice_get ms p.fetched ≡ found → Fetches p q found
@@ -130,7 +128,7 @@ fetches_more w ms x start count p q widths are fetching room small has = go (sli
     go None e none = absurd none
     go (Some m) e same =
         subst (λ r. (r.cycle ≡ p.cycle) × IsFetching w (length ms) x start r.cycle (count + 1) r) (sym same)
-        (refl, fetches_one w ms x start count p m are fetching (arrives w ms x start count p p.cycle widths are fetching room small has.0) e)
+        (refl, fetches_one w ms x start count p m are fetching (arrives w ms x start count p p.cycle widths are fetching room has.0) e)
 
 -- no more are fetched
 fetches_none :
@@ -170,12 +168,10 @@ with_arrival w n x start t count p at fetching arriving begin =
         capacity = held.capacity;
         unit = held.unit;
         accesses = held.accesses;
+        coming = held.coming;
+        reach = held.reach;
         written = held.written;
         writers = held.writers;
-        reserved = held.reserved;
-        waiting = held.waiting;
-        awake = held.awake;
-        idle = held.idle;
         latest = held.latest;
         completion = held.completion;
         retirement = held.retirement;
@@ -194,13 +190,13 @@ late_fetch w n x t i is within late = omega (arith, is.fetch i within)
 
 pub fetches_no_more :
     (w : Widths) (ms : List Marked) (x : ℕ → Timed) (start count : ℕ) (p q : Pipeline) → AreWidths w → AreTimes w ms x
-    → IsFetching w (length ms) x start p.cycle count p → count < w.fetch → p.cycle ≤ 2 ^ 33 → HasFetched w ms false p q
+    → IsFetching w (length ms) x start p.cycle count p → count < w.fetch → HasFetched w ms false p q
     → IsDone w (length ms) x (p.cycle + 1) (p.cycle + 1) (p.cycle + 1) (p.cycle + 1) q
-fetches_no_more w ms x start count p q widths are fetching room small has =
+fetches_no_more w ms x start count p q widths are fetching room has =
     let arriving : IfSome (arrival w ms p) (IsArriving w (length ms) x p) =
-    if_some (IsArriving w (length ms) x p) (arrival w ms p) (λ at e. arrives w ms x start count p at widths are fetching room small e) in
+    if_some (IsArriving w (length ms) x p) (arrival w ms p) (λ at e. arrives w ms x start count p at widths are fetching room e) in
     let begin : arrival w ms p ≡ None → p.fetched < length ms → p.cycle < begin_at w x p.fetched =
-    λ none below. waits w ms x start count p widths are fetching room small none below in
+    λ none below. waits w ms x start count p widths are fetching room none below in
     let known : IsFetching w (length ms) x start p.cycle count (with_arriving p (arrival w ms p)) =
     with_arrival w (length ms) x start p.cycle count p (arrival w ms p) fetching arriving (λ none below. omega (arith, begin none below)) in
     subst (λ r. IsDone w (length ms) x (p.cycle + 1) (p.cycle + 1) (p.cycle + 1) (p.cycle + 1) r) (sym has.0)

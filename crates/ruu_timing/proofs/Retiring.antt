@@ -1,6 +1,5 @@
 -- The instructions that are retired in a cycle.
-use Rattle.std.proofs.Common.{Bool, List, None, Option, Some, ap, arith, false, inl, inr, length, length-append, refl, subst, suc, sym, take, true, zero, ℕ, ◌≡◌, ◌+◌, ◌-◌, ◌<◌, ◌≤◌, ◌^◌, ◌++◌, if◌then◌else◌, [], ◌∷◌, ◌∙◌}
-use Rattle.std.proofs.lemmas.Bool.{cases_lt}
+use Rattle.std.proofs.Common.{Bool, List, None, Option, Some, ap, arith, false, length, length-append, refl, subst, suc, sym, take, true, zero, ℕ, ◌≡◌, ◌+◌, ◌-◌, ◌<◌, ◌≤◌, ◌++◌, if◌then◌else◌, [], ◌∷◌, ◌∙◌}
 use Rattle.std.proofs.lemmas.List.{length-take-le, take-append-le, take_all}
 use Rattle.std.specs.List.{slice_get}
 use Rattle.std.specs.Option.{IfSome}
@@ -8,8 +7,7 @@ use Rattle.circular_buffer.specs.Buffer.{Buffer, buffer, last_item}
 use Rattle.hierarchy.specs.Marked.{accesses_memory}
 use Rattle.hierarchy.specs.Widths.{AreWidths}
 use Rattle.hierarchy.specs.declared.widths.Widths.{Widths}
-use Rattle.ruu_timing.specs.Pipeline.{IsCount, IsDone, IsHeld, IsPipeline, IsSafe, IsSlot, Placed, access_of, accesses_from, completes}
-use Rattle.ruu_timing.specs.Rows.{Each}
+use Rattle.ruu_timing.specs.Pipeline.{IsCount, IsDone, IsHeld, IsPipeline, IsSlot, Placed, access_of, accesses_from}
 use Rattle.ruu_timing.specs.Schedule.{IsSchedule, ago, begin_at, retirement_at}
 use Rattle.ruu_timing.specs.Retire.{HasRetired, Retires, without_oldest}
 use Rattle.ruu_timing.specs.Times.{accesses}
@@ -18,7 +16,6 @@ use Rattle.ruu_timing.specs.declared.pipeline.Pipeline.{Pipeline}
 use Rattle.ruu_timing.specs.declared.pipeline.Slot.{Slot}
 use Rattle.ruu_timing.specs.declared.timed.Timed.{Timed}
 use Rattle.ruu_timing.proofs.Counts.{IsCounting, counted, counting_more, last_done, width_done, width_waits}
-use Rattle.ruu_timing.proofs.Elements.{each_take}
 use Rattle.ruu_timing.proofs.FetchQueue.{arriving_kept}
 use Rattle.ruu_timing.proofs.Places.{placed_oldest}
 use Rattle.ruu_timing.proofs.Rising.{IsInOrder, in_order, retirement_rises}
@@ -48,18 +45,18 @@ if_last false c y xs x = refl
 
 pub accesses_last :
     (x : ℕ → Timed) (from k : ℕ)
-    → accesses_from x from (suc k) ≡ with_last (accesses (x from)) (accesses_from x (suc from) k) (access_of (suc from) (x from))
+    → accesses_from x from (suc k) ≡ with_last (accesses (x from)) (accesses_from x (suc from) k) (access_of (x from))
 accesses_last x from zero = let e : from + 0 ≡ from = omega arith in rw e (go (accesses (x from)))
   where
-    go : (b : Bool) → (if b then access_of (suc from) (x from) ∷ [] else []) ≡ with_last b [] (access_of (suc from) (x from))
+    go : (b : Bool) → (if b then access_of (x from) ∷ [] else []) ≡ with_last b [] (access_of (x from))
     go true = refl
     go false = refl
 accesses_last x from (suc k) =
     let e : from + suc k ≡ suc from + k = omega arith in
-    let Rest : List Access → List Access = λ rest. if accesses (x (suc from + k)) then access_of (suc (suc from + k)) (x (suc from + k)) ∷ rest else rest in
+    let Rest : List Access → List Access = λ rest. if accesses (x (suc from + k)) then access_of (x (suc from + k)) ∷ rest else rest in
     rw e (ap Rest (accesses_last x from k)
-    ∙ if_last (accesses (x (suc from + k))) (accesses (x from)) (access_of (suc (suc from + k)) (x (suc from + k))) (accesses_from x (suc from) k)
-    (access_of (suc from) (x from)))
+    ∙ if_last (accesses (x (suc from + k))) (accesses (x from)) (access_of (x (suc from + k))) (accesses_from x (suc from) k)
+    (access_of (x from)))
 
 take_front : {X : Type 0} (xs : List X) (x : X) → take (length (xs ++ x ∷ []) - 1) (xs ++ x ∷ []) ≡ xs
 take_front xs x =
@@ -77,20 +74,20 @@ some_items [] x e = absurd (cc)
 some_items (y ∷ xs) x e = omega arith
 
 -- the oldest instruction
-record IsOldest (x : ℕ → Timed) (t : ℕ) (p : Pipeline) (slot : Slot) : Type 0 where
+record IsOldest (x : ℕ → Timed) (p : Pipeline) (slot : Slot) : Type 0 where
   some : 1 ≤ length p.unit.items
-  first : IsSlot x t p.wake p.retired slot
-  others : Placed (IsSlot x t p.wake) (p.retired + 1) (take (length p.unit.items - 1) p.unit.items)
+  first : IsSlot x p.retired slot
+  others : Placed (IsSlot x) (p.retired + 1) (take (length p.unit.items - 1) p.unit.items)
   times : IsInOrder (x p.retired)
   within : p.retired < p.dispatched
 
 oldest :
     (w : Widths) (n : ℕ) (x : ℕ → Timed) (t : ℕ) (p : Pipeline) (slot : Slot) → IsSchedule w n x → IsHeld w n x t p
-    → last_item p.unit.items ≡ Some slot → IsOldest x t p slot
+    → last_item p.unit.items ≡ Some slot → IsOldest x p slot
 oldest w n x t p slot is held found =
     let some : 1 ≤ length p.unit.items = some_items p.unit.items slot found in
-    let parts : IsSlot x t p.wake p.retired slot × Placed (IsSlot x t p.wake) (p.retired + 1) (take (length p.unit.items - 1) p.unit.items) =
-    placed_oldest (IsSlot x t p.wake) p.retired p.unit.items slot held.unit found in
+    let parts : IsSlot x p.retired slot × Placed (IsSlot x) (p.retired + 1) (take (length p.unit.items - 1) p.unit.items) =
+    placed_oldest (IsSlot x) p.retired p.unit.items slot held.unit found in
     let within : p.retired < p.dispatched = omega (arith, held.count) in
     record {
       some = some;
@@ -99,20 +96,6 @@ oldest w n x t p slot is held found =
       times = in_order w n x p.retired is (omega (arith, held.queued, held.fetched));
       within = within;
     }
-
-completes_then :
-    (x : ℕ → Timed) (t : ℕ) (p : Pipeline) (slot : Slot) → IsOldest x t p slot → t ≤ p.wake → t ≤ 2 ^ 33 → completes slot < t
-    → completes slot ≡ (x p.retired).completion
-completes_then x t p slot is awake small done =
-    let latency : slot.latency ≡ (x p.retired).mark.latency = is.first.latency in
-    elim (cases_lt (x p.retired).issue t) [
-      | inl lt ↦ omega (arith, is.first.issued lt, is.times.latency, is.times.retirement, is.times.small)
-      | inr ge ↦ absurd (omega (arith, is.first.waits ge))
-    ]
-
-completes_by :
-    (x : ℕ → Timed) (t : ℕ) (p : Pipeline) (slot : Slot) → IsOldest x t p slot → completes slot ≤ (x p.retired).completion
-completes_by x t p slot is = omega (arith, is.first.latency, is.first.most, is.times.latency)
 
 retired_by :
     (w : Widths) (n : ℕ) (x : ℕ → Timed) (start t count : ℕ) (p : Pipeline) → IsSchedule w n x → IsRetiring w n x start t count p
@@ -125,10 +108,9 @@ retired_by w n x start t count p is retiring room within complete =
     omega (arith, is.retirement p.retired within)
 
 without_held :
-    (w : Widths) (n : ℕ) (x : ℕ → Timed) (t : ℕ) (p : Pipeline) (slot : Slot) → IsHeld w n x t p → IsOldest x t p slot
-    → completes slot ≡ (x p.retired).completion → p.cycle ≡ (x p.retired).retirement
-    → IsHeld w n x t (without_oldest p slot)
-without_held w n x t p slot held is complete retired =
+    (w : Widths) (n : ℕ) (x : ℕ → Timed) (t : ℕ) (p : Pipeline) (slot : Slot) → IsHeld w n x t p → IsOldest x p slot
+    → p.cycle ≡ (x p.retired).retirement → IsHeld w n x t (without_oldest p slot)
+without_held w n x t p slot held is retired =
     let next : p.retired + 1 ≡ suc p.retired = omega arith in
     let size : length (take (length p.unit.items - 1) p.unit.items) ≡ length p.unit.items - 1 =
     length-take-le (length p.unit.items - 1) p.unit.items (omega arith) in
@@ -136,7 +118,7 @@ without_held w n x t p slot held is complete retired =
     let held_accesses : p.accesses ≡ buffer (accesses_from x p.retired (length p.unit.items)) w.lsq = held.accesses in
     let accesses_are : p.accesses ≡ buffer (accesses_from x p.retired (suc (length p.unit.items - 1))) w.lsq =
     subst (λ k. p.accesses ≡ buffer (accesses_from x p.retired k) w.lsq) all held_accesses in
-    let split : p.accesses ≡ buffer (with_last (accesses_memory (x p.retired).mark.class) (accesses_from x (suc p.retired) (length p.unit.items - 1)) (access_of (suc p.retired) (x p.retired))) w.lsq =
+    let split : p.accesses ≡ buffer (with_last (accesses_memory (x p.retired).mark.class) (accesses_from x (suc p.retired) (length p.unit.items - 1)) (access_of (x p.retired))) w.lsq =
     rw (accesses_last x p.retired (length p.unit.items - 1)) at accesses_are in
     record {
       queued = held.queued;
@@ -147,15 +129,13 @@ without_held w n x t p slot held is complete retired =
       capacity = held.capacity;
       unit = is.others;
       accesses = rw (next, size, is.first.class)
-          (shorter (accesses_memory (x p.retired).mark.class) (accesses_from x (suc p.retired) (length p.unit.items - 1)) (access_of (suc p.retired) (x p.retired)) p.accesses w.lsq split);
+          (shorter (accesses_memory (x p.retired).mark.class) (accesses_from x (suc p.retired) (length p.unit.items - 1)) (access_of (x p.retired)) p.accesses w.lsq split);
+      coming = held.coming;
+      reach = held.reach;
       written = held.written;
       writers = held.writers;
-      reserved = held.reserved;
-      waiting = held.waiting;
-      awake = held.awake;
-      idle = held.idle;
       latest = held.latest;
-      completion = rw next complete;
+      completion = rw next is.first.completion;
       retirement = rw next retired;
       arriving = arriving_kept w n x p (without_oldest p slot) p.arriving refl (omega arith) held.arriving;
     }
@@ -163,18 +143,17 @@ without_held w n x t p slot held is complete retired =
 -- one more is retired
 retires_oldest :
     (w : Widths) (n : ℕ) (x : ℕ → Timed) (start t count : ℕ) (p : Pipeline) (slot : Slot) → IsSchedule w n x
-    → t ≤ 2 ^ 33 → p.cycle ≡ t → IsRetiring w n x start t count p → count < w.retire
-    → last_item p.unit.items ≡ Some slot → completes slot < t
+    → p.cycle ≡ t → IsRetiring w n x start t count p → count < w.retire
+    → last_item p.unit.items ≡ Some slot → slot.completion < t
     → IsRetiring w n x start t (count + 1) (without_oldest p slot)
-retires_oldest w n x start t count p slot is small now retiring room found done =
+retires_oldest w n x start t count p slot is now retiring room found done =
     let held : IsHeld w n x t p = retiring.held in
-    let old : IsOldest x t p slot = oldest w n x t p slot is held found in
+    let old : IsOldest x p slot = oldest w n x t p slot is held found in
     let within : p.retired < n = omega (arith, old.within, held.queued, held.fetched) in
-    let complete : completes slot ≡ (x p.retired).completion = completes_then x t p slot old held.awake small done in
-    let by : (x p.retired).retirement ≤ t = retired_by w n x start t count p is retiring room within (omega arith) in
+    let by : (x p.retired).retirement ≤ t = retired_by w n x start t count p is retiring room within (omega (arith, old.first.completion)) in
     let from : t ≤ (x p.retired).retirement = retiring.counting.before.after p.retired retiring.counting.order within in
     record {
-      held = without_held w n x t p slot held old complete (omega arith);
+      held = without_held w n x t p slot held old (omega arith);
       counting = counting_more n (λ i. (x i).retirement) start p.retired t retiring.counting within by;
       so_far = omega (arith, retiring.so_far);
       dispatched = retiring.dispatched;
@@ -184,15 +163,15 @@ retires_oldest w n x start t count p slot is small now retiring room found done 
 
 pub retires_more :
     (w : Widths) (n : ℕ) (x : ℕ → Timed) (start t count : ℕ) (p q : Pipeline) → IsSchedule w n x
-    → t ≤ 2 ^ 33 → p.cycle ≡ t → IsRetiring w n x start t count p → count < w.retire → HasRetired true p q
+    → p.cycle ≡ t → IsRetiring w n x start t count p → count < w.retire → HasRetired true p q
     → IsRetiring w n x start t (count + 1) q
-retires_more w n x start t count p q is small now retiring room has = go (last_item p.unit.items) refl has
+retires_more w n x start t count p q is now retiring room has = go (last_item p.unit.items) refl has
   where
     go : (found : Option Slot) → last_item p.unit.items ≡ found → Retires p q found → IsRetiring w n x start t (count + 1) q
     go None e none = absurd none
     go (Some slot) e has =
         subst (λ r. IsRetiring w n x start t (count + 1) r) (sym has.1)
-        (retires_oldest w n x start t count p slot is small now retiring room e (omega (arith, has.0)))
+        (retires_oldest w n x start t count p slot is now retiring room e (omega (arith, has.0)))
 
 -- no more are retired
 pub retires_none :
@@ -222,15 +201,15 @@ retires_no_more w n x start t count p q is now retiring has =
     subst (λ r. IsDone w n x (t + 1) t t t r) (sym has.0)
     (retires_none w n x start t count p is retiring (λ within. go (last_item p.unit.items) refl within has.1))
   where
-    go : (found : Option Slot) → last_item p.unit.items ≡ found → p.retired < n → IfSome found (λ slot. p.cycle ≤ completes slot)
+    go : (found : Option Slot) → last_item p.unit.items ≡ found → p.retired < n → IfSome found (λ slot. p.cycle ≤ slot.completion)
         → t < (x p.retired).retirement
     go None e within waits =
         let times : IsInOrder (x p.retired) = in_order w n x p.retired is within in
         let late : t ≤ (x p.retired).dispatch = retiring.dispatched.after p.retired (omega (arith, no_items p.unit.items e, retiring.held.count)) within in
         omega (arith, times.issue, times.completion, times.retirement)
     go (Some slot) e within waits =
-        let old : IsOldest x t p slot = oldest w n x t p slot is retiring.held e in
-        omega (arith, completes_by x t p slot old, old.times.retirement)
+        let old : IsOldest x p slot = oldest w n x t p slot is retiring.held e in
+        omega (arith, old.first.completion, old.times.retirement)
 
 -- as many as may be are retired
 pub retires_all :
@@ -242,12 +221,6 @@ retires_all w n x start t count p widths is full retiring =
     width_waits n (λ i. (x i).retirement) start p.retired t w.retire retiring.counting widths.retire.0 (omega (arith, retiring.so_far)) in
     retires_none w n x start t count p is retiring (λ within. omega (arith, wide, is.retirement p.retired within))
 
-each_if :
-    {X : Type 0} (P : X → Type 0) (b : Bool) (k : ℕ) (old : Buffer X) → Each P old.items
-    → Each P (if b then buffer (take k old.items) old.capacity else old).items
-each_if P true k old each = each_take P k old.items each
-each_if P false k old each = each
-
 without_pipeline : (p : Pipeline) (slot : Slot) → last_item p.unit.items ≡ Some slot → IsPipeline p → IsPipeline (without_oldest p slot)
 without_pipeline p slot found is =
     let some : 1 ≤ length p.unit.items = some_items p.unit.items slot found in
@@ -255,12 +228,8 @@ without_pipeline p slot found is =
       cycle = is.cycle;
       few = is.few;
       queued = is.queued;
-      count = omega (arith, is.count, length-take-le (length p.unit.items - 1) p.unit.items (omega arith));
+      order = omega (arith, is.order, length-take-le (length p.unit.items - 1) p.unit.items (omega arith));
       written = is.written;
-      writers = is.writers;
-      accesses = each_if (λ access. access.number ≤ p.dispatched) (accesses_memory slot.class) (length p.accesses.items - 1) p.accesses is.accesses;
-      unit = each_take (IsSafe p.dispatched) (length p.unit.items - 1) p.unit.items is.unit;
-      waiting = is.waiting;
     }
 
 -- the processor after one more

@@ -1,5 +1,5 @@
 -- Tests that say whether a time has come.
-use Rattle.std.proofs.Common.{Bool, arith, false, inl, inr, max, nat_le, nat_lt, not, refl, true, ℕ, ◌≡◌, ◌⊎◌, ◌+◌, ◌-◌, ◌<◌, ◌≤◌, ◌&&◌, ◌||◌, ◌==◌, if◌then◌else◌}
+use Rattle.std.proofs.Common.{Bool, arith, false, inl, inr, max, nat_le, nat_lt, not, refl, true, ℕ, ◌≡◌, ◌+◌, ◌-◌, ◌<◌, ◌≤◌, ◌&&◌, ◌||◌, ◌==◌, if◌then◌else◌}
 use Rattle.std.proofs.lemmas.Bool.{cases_eq, eq-eqb, ne_eqb, cases_lt, le-leb, le-ltb, lt-leb, lt-ltb}
 
 -- the test says whether a time has come by cycle t
@@ -43,18 +43,15 @@ pub tells_transferred :
 tells_transferred true fetch t le = tells_lt fetch t (fetch + 1) t (λ h. omega arith) (λ h. omega arith)
 tells_transferred false fetch t le = le
 
--- a completion is known, or neither it nor what is known of it has come
-abbrev pub IsKnownOrLate : ℕ → ℕ → ℕ → Type 0
-IsKnownOrLate known completion t = (known ≡ completion) ⊎ ((t < known) × (t < completion))
-
+-- the penalty has passed since a completion
 pub tells_corrected :
-    (known penalty completion t : ℕ) → IsKnownOrLate known completion t
-    → Tells (nat_le known t && nat_le penalty (t - known)) (completion + penalty) t
-tells_corrected known penalty completion t (inr late) = rw (lt-leb known t late.0) (omega (arith, late.1))
-tells_corrected known penalty completion t (inl same) =
-    elim (cases_lt t known) [
-      | inl lt ↦ rw (lt-leb known t lt) (omega arith)
-      | inr ge ↦ rw (le-leb known t ge) (tells_le penalty (t - known) (completion + penalty) t (λ h. omega arith) (λ h. omega arith))
+    (penalty completion t : ℕ) → Tells (nat_le completion t && nat_le penalty (t - completion)) (completion + penalty) t
+tells_corrected penalty completion t =
+    elim (cases_lt t completion) [
+      | inl lt ↦ rw (lt-leb completion t lt) (omega arith)
+      | inr ge ↦
+          rw (le-leb completion t ge)
+          (tells_le penalty (t - completion) (completion + penalty) t (λ h. omega arith) (λ h. omega arith))
     ]
 
 pub in_time : (b : Bool) (m k t : ℕ) → (m ≤ t → k ≤ t) → (t < m → t < k) → Tells b m t → Tells b k t

@@ -11,6 +11,7 @@ use Rattle.ruu_timing.specs.Schedule.{retirement_of, timed_at}
 use Rattle.ruu_timing.specs.Times.{times}
 use Rattle.ruu_timing.specs.declared.pipeline.Pipeline.{Pipeline}
 use Rattle.ruu_timing.specs.declared.timed.Timed.{Timed}
+use Rattle.ruu_timing.proofs.Given.{no_counts}
 use Rattle.ruu_timing.proofs.Listed.{listed}
 use Rattle.ruu_timing.proofs.Schedules.{timed_to, times_listed}
 use Rattle.ruu_timing.proofs.Totals.{AreCycles, cycles_between, retired_back}
@@ -35,12 +36,10 @@ empty_done w n x p is =
         capacity = ap (λ b. b.capacity) is.unit;
         unit = rw is.unit tt;
         accesses = rw is.unit is.accesses;
+        coming = λ ahead. rw (is.dispatched, is.coming) (record { all = refl; alike = no_counts; size = refl });
+        reach = ap (λ b. b.capacity) is.coming;
         written = ap (λ (l : List ℕ). length l) is.writers ∙ length-replicate {A = ℕ} 256 0;
         writers = λ r below. rw (is.writers, is.dispatched) (get_or-replicate 256 r 0 0 below);
-        reserved = is.reserved;
-        waiting = rw is.dispatched is.waiting;
-        awake = omega arith;
-        idle = λ i below. absurd (omega (arith, is.dispatched));
         latest = rw is.fetched is.latest;
         completion = rw is.retired is.completion;
         retirement = rw is.retired is.retirement;
@@ -57,7 +56,7 @@ held_sized w n x v p is = record {
   queue = ap (λ b. b.capacity) is.queue;
   unit = is.capacity;
   accesses = ap (λ b. b.capacity) is.accesses;
-  waiting = is.reserved;
+  coming = is.reach;
   writers = is.written;
 }
 

@@ -8,14 +8,13 @@ use Rattle.ruu_timing.specs.declared.pipeline.Latest.{Latest}
 use Rattle.ruu_timing.specs.declared.pipeline.Pipeline.{Pipeline}
 use Rattle.ruu_timing.specs.declared.pipeline.Slot.{Slot}
 use Rattle.ruu_timing.specs.Class.{is_ecall}
-use Rattle.ruu_timing.specs.Pipeline.{completes}
 
 -- of the latest, or, where none is in the unit, of the last that was retired
 abbrev pub completion_or : ℕ → Option Slot → ℕ
 completion_or completion None = completion
-completion_or completion (Some slot) = completes slot
+completion_or completion (Some slot) = slot.completion
 
--- when the latest instruction completes, as far as is known, where all that are fetched are dispatched
+-- when the latest instruction completes, where all that are fetched are dispatched
 abbrev pub last_completion : Pipeline → ℕ
 last_completion p = completion_or p.completion (slice_get p.unit.items 0)
 
@@ -28,12 +27,18 @@ latest_is fetch m = record {
   is_call = is_ecall m.class;
 }
 
+-- the penalty has passed since the latest completed, where all that are fetched are dispatched
+abbrev pub is_corrected : Widths → Pipeline → Bool
+is_corrected w p =
+    (length p.queue.items == 0)
+    && (nat_le (last_completion p) p.cycle && nat_le w.penalty (p.cycle - last_completion p))
+
 -- nothing but the instruction caches delays the next fetch
 abbrev pub may_begin : Widths → Pipeline → Bool
 may_begin w p =
     nat_lt (length p.queue.items) w.queue
     && ((not p.latest.is_transferred || nat_lt p.latest.fetch p.cycle)
-    && ((not p.latest.is_mispredicted || ((length p.queue.items == 0) && (nat_le (last_completion p) p.cycle && nat_le w.penalty (p.cycle - last_completion p))))
+    && ((not p.latest.is_mispredicted || is_corrected w p)
     && (not p.latest.is_call || ((p.retired == p.fetched) && nat_lt p.retirement p.cycle))))
 
 -- an arrival that is known stays; else the next instruction of the trace, if its fetch begins, arrives after the stall

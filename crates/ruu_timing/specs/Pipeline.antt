@@ -1,22 +1,32 @@
 -- What the processor holds in a cycle, by the times of all instructions of the trace.
-use Rattle.std.specs.Prelude.{◌≡◌, ◌⊎◌, ◌<◌, ◌≤◌, ℕ, zero, suc, ◌+◌, ◌-◌, ◌^◌, nat_le, if◌then◌else◌, false, None, List, [], ◌∷◌, length, get_or, replicate, vec_capacity, min}
+use Rattle.std.specs.Prelude.{◌≡◌, ◌<◌, ◌≤◌, ℕ, zero, suc, ◌+◌, ◌-◌, ◌*◌, ◌^◌, if◌then◌else◌, false, None, List, [], ◌∷◌, length, get_or, replicate}
 use Rattle.std.specs.Option.{IfSome}
 use Rattle.circular_buffer.specs.Buffer.{buffer}
 use Rattle.hierarchy.specs.declared.marked.Marked.{Marked}
 use Rattle.hierarchy.specs.declared.widths.Widths.{Widths}
 use Rattle.ruu_timing.specs.declared.timed.Timed.{Timed}
+use Rattle.rv_isa.specs.declared.roles.Class.{Class}
+use Rattle.ruu_timing.specs.declared.issue.Issued.{Issued}
 use Rattle.ruu_timing.specs.declared.pipeline.Access.{Access}
 use Rattle.ruu_timing.specs.declared.pipeline.Latest.{Latest}
 use Rattle.ruu_timing.specs.declared.pipeline.Pipeline.{Pipeline}
 use Rattle.ruu_timing.specs.declared.pipeline.Slot.{Slot}
-use Rattle.ruu_timing.specs.Class.{is_store, is_ecall}
-use Rattle.ruu_timing.specs.Rows.{Each}
-use Rattle.ruu_timing.specs.Schedule.{nothing, completion_of, retirement_of, last_writer, writer_of, awaited_store, begin_at}
+use Rattle.ruu_timing.specs.Class.{is_store, is_ecall, number_of}
+use Rattle.ruu_timing.specs.Schedule.{nothing, completion_of, retirement_of, last_writer, issued_in, alike_in, begin_at}
 use Rattle.ruu_timing.specs.Times.{accesses}
 
--- when an instruction in the register update unit completes, as far as is known
-abbrev pub completes : Slot → ℕ
-completes slot = min (slot.issue + slot.latency) (2 ^ 64 - 1)
+-- no instruction issues in a cycle
+abbrev pub none_issued : Issued
+none_issued = record { all = 0; alike = 0 ∷ 0 ∷ 0 ∷ 0 ∷ 0 ∷ 0 ∷ 0 ∷ [] }
+
+-- how many issue so many cycles ahead
+abbrev pub issued_ahead : List Issued → ℕ → Issued
+issued_ahead coming ahead = get_or coming ahead none_issued
+
+-- the most cycles from a dispatch to the issue: as if each of those before it in the register update unit
+-- waited for the one before
+abbrev pub span : Widths → ℕ
+span w = w.ruu * 1217
 
 -- of the n instructions the first `count` have their time before `past`, and the others none before `from`
 pub record IsCount (n : ℕ) (time : ℕ → ℕ) (count from past : ℕ) : Type 0 where
@@ -29,22 +39,16 @@ abbrev pub marks_from : (ℕ → Timed) → ℕ → ℕ → List Marked
 marks_from x from zero = []
 marks_from x from (suc k) = (x from).mark ∷ marks_from x (suc from) k
 
--- what is waited for completes with the instruction of this number, or had completed by a cycle
-abbrev pub IsSource : (ℕ → Timed) → ℕ → ℕ → ℕ → Type 0
-IsSource x by awaited number = (number ≡ awaited) ⊎ ((number ≡ 0) × (completion_of x awaited ≤ by))
-
--- the i-th instruction's place of the register update unit, where those that issue before cycle v have
--- done so, and no others can before cycle u
-pub record IsSlot (x : ℕ → Timed) (v u i : ℕ) (slot : Slot) : Type 0 where
+-- the i-th instruction's place of the register update unit
+pub record IsSlot (x : ℕ → Timed) (i : ℕ) (slot : Slot) : Type 0 where
   pub class : slot.class ≡ (x i).mark.class
-  pub latency : slot.latency ≡ (x i).mark.latency
-  pub first : IsSource x (x i).dispatch (writer_of x i (x i).mark.first) slot.first
-  pub second : IsSource x (x i).dispatch (writer_of x i (x i).mark.second) slot.second
-  pub store : IsSource x (x i).dispatch (awaited_store x i) slot.store
-  pub after : (x i).dispatch < slot.issue
-  pub most : slot.issue ≤ (x i).issue
-  pub issued : (x i).issue < v → slot.issue ≡ (x i).issue
-  pub waits : v ≤ (x i).issue → u ≤ slot.issue
+  pub completion : slot.completion ≡ (x i).completion
+
+-- so many of the first `count` instructions issue in a cycle, and so many of each class
+pub record AreCounts (x : ℕ → Timed) (t count : ℕ) (issued : Issued) : Type 0 where
+  pub all : issued.all ≡ issued_in x t count
+  pub alike : (class : Class) → get_or issued.alike (number_of class) 0 ≡ alike_in x class t count
+  pub size : length issued.alike ≡ 7
 
 -- what holds of the places from a number on, the latest first
 abbrev pub Placed : (ℕ → Slot → Type 0) → ℕ → List Slot → Type 0
@@ -52,21 +56,15 @@ Placed P from [] = Unit {0}
 Placed P from (slot ∷ slots) = P (from + length slots) slot × Placed P from slots
 
 -- a load or store as it stands in the load and store queue
-abbrev pub access_of : ℕ → Timed → Access
-access_of number x = record { number = number; word = x.mark.word; is_store = is_store x.mark.class }
+abbrev pub access_of : Timed → Access
+access_of x = record { word = x.mark.word; is_store = is_store x.mark.class; completion = x.completion }
 
 -- the loads and stores among so many instructions from a place on, the latest first
 abbrev pub accesses_from : (ℕ → Timed) → ℕ → ℕ → List Access
 accesses_from x from zero = []
 accesses_from x from (suc k) =
-    if accesses (x (from + k)) then access_of (suc (from + k)) (x (from + k)) ∷ accesses_from x from k
+    if accesses (x (from + k)) then access_of (x (from + k)) ∷ accesses_from x from k
     else accesses_from x from k
-
--- the numbers of those among so many instructions from a place on that don't issue before a cycle
-abbrev pub unissued : (ℕ → Timed) → ℕ → ℕ → ℕ → List ℕ
-unissued x v from zero = []
-unissued x v from (suc k) =
-    if nat_le v (x from).issue then suc from ∷ unissued x v (suc from) k else unissued x v (suc from) k
 
 -- what the fetch behind the first so many instructions may wait for
 abbrev pub latest_of : (ℕ → Timed) → ℕ → Latest
@@ -84,7 +82,7 @@ pub record IsArriving (w : Widths) (n : ℕ) (x : ℕ → Timed) (p : Pipeline) 
   pub fetch : at ≡ (x p.fetched).fetch
   pub room : p.fetched - p.dispatched < w.queue
 
--- the parts of the processor hold what the counts of instructions say, with the issues before cycle v done
+-- the parts of the processor hold what the counts of instructions say, where cycle v is the next to issue
 pub record IsHeld (w : Widths) (n : ℕ) (x : ℕ → Timed) (v : ℕ) (p : Pipeline) : Type 0 where
   pub queued : p.dispatched ≤ p.fetched
   pub fetched : p.fetched ≤ n
@@ -92,14 +90,12 @@ pub record IsHeld (w : Widths) (n : ℕ) (x : ℕ → Timed) (v : ℕ) (p : Pipe
   pub count : p.dispatched ≡ p.retired + length p.unit.items
   pub room : length p.unit.items ≤ w.ruu
   pub capacity : p.unit.capacity ≡ w.ruu
-  pub unit : Placed (IsSlot x v p.wake) p.retired p.unit.items
+  pub unit : Placed (IsSlot x) p.retired p.unit.items
   pub accesses : p.accesses ≡ buffer (accesses_from x p.retired (length p.unit.items)) w.lsq
+  pub coming : (ahead : ℕ) → AreCounts x (v + ahead) p.dispatched (issued_ahead p.coming.items ahead)
+  pub reach : p.coming.capacity ≡ span w
   pub written : length p.writers.items ≡ 256
-  pub writers : (r : ℕ) → r < 256 → get_or p.writers.items r 0 ≡ last_writer x r p.dispatched
-  pub reserved : w.ruu ≤ vec_capacity p.waiting
-  pub waiting : p.waiting.items ≡ unissued x v 0 p.dispatched
-  pub awake : v ≤ p.wake
-  pub idle : (i : ℕ) → i < p.dispatched → p.wake ≤ (x i).issue ⊎ (x i).issue < v
+  pub writers : (r : ℕ) → r < 256 → get_or p.writers.items r 0 ≡ completion_of x (last_writer x r p.dispatched)
   pub latest : p.latest ≡ latest_of x p.fetched
   pub completion : p.completion ≡ completion_of x p.retired
   pub retirement : p.retirement ≡ retirement_of x p.retired
@@ -113,38 +109,20 @@ pub record IsDone (w : Widths) (n : ℕ) (x : ℕ → Timed) (retire issue dispa
   pub fetched : IsCount n (λ i. (x i).fetch) p.fetched fetch fetch
   pub begin : p.arriving ≡ None → p.fetched < n → fetch ≤ begin_at w x p.fetched
 
--- those that it waits for have been dispatched
-pub record IsSafe (dispatched : ℕ) (slot : Slot) : Type 0 where
-  pub first : slot.first ≤ dispatched
-  pub second : slot.second ≤ dispatched
-  pub store : slot.store ≤ dispatched
-
 -- what safety takes of a processor, whatever the trace
 pub record IsPipeline (p : Pipeline) : Type 0 where
   pub cycle : p.cycle ≤ 2 ^ 33
   pub few : p.fetched ≤ 110000
-  pub queued : p.dispatched ≤ p.fetched
-  pub count : p.dispatched ≡ p.retired + length p.unit.items
+  pub queued : p.dispatched + length p.queue.items ≤ p.fetched
+  pub order : p.retired + length p.unit.items ≤ p.dispatched
   pub written : length p.writers.items ≡ 256
-  pub writers : Each (λ number. number ≤ p.dispatched) p.writers.items
-  pub accesses : Each (λ access. access.number ≤ p.dispatched) p.accesses.items
-  pub unit : Each (IsSafe p.dispatched) p.unit.items
-  pub waiting : Each (λ number. number ≤ p.dispatched) p.waiting.items
-
--- there is room to wait for each place of the register update unit, and the fetch queue holds those that
--- are fetched and not dispatched
-pub record HasReserve (w : Widths) (p : Pipeline) : Type 0 where
-  pub queued : p.fetched ≡ p.dispatched + length p.queue.items
-  pub capacity : p.unit.capacity ≡ w.ruu
-  pub reserved : w.ruu ≤ vec_capacity p.waiting
-  pub few : length p.waiting.items ≤ length p.unit.items
 
 -- sizes of the parts
 pub record IsSized (w : Widths) (p : Pipeline) : Type 0 where
   pub queue : p.queue.capacity ≡ w.queue
   pub unit : p.unit.capacity ≡ w.ruu
   pub accesses : p.accesses.capacity ≡ w.lsq
-  pub waiting : w.ruu ≤ vec_capacity p.waiting
+  pub coming : p.coming.capacity ≡ span w
   pub writers : length p.writers.items ≡ 256
 
 -- no instruction has come
@@ -160,7 +138,5 @@ pub record IsEmpty (w : Widths) (p : Pipeline) : Type 0 where
   pub queue : p.queue ≡ buffer [] w.queue
   pub unit : p.unit ≡ buffer [] w.ruu
   pub accesses : p.accesses ≡ buffer [] w.lsq
-  pub waiting : p.waiting.items ≡ []
-  pub reserved : w.ruu ≤ vec_capacity p.waiting
-  pub wake : p.wake ≡ 2 ^ 64 - 1
+  pub coming : p.coming ≡ buffer [] (span w)
   pub writers : p.writers.items ≡ replicate 256 0

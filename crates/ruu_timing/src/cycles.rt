@@ -24,7 +24,7 @@ impl Pipeline {
             self.new.cycle self.new.cycle self.new.cycle self.new.cycle self.new }
     {
         self.retire(w);
-        self.issue(w);
+        self.issue();
         self.dispatch(w);
         self.fetch(w, trace);
         self.cycle += 1;

@@ -1,13 +1,14 @@
 //! Dispatch: in program order from the fetch queue to the register update unit, so many in a cycle.
-ghost use Rattle.std.specs.Prelude.{◌≡◌, ◌+◌, ◌<◌, ◌-◌, ℕ, length, option_copied, true, vec_capacity};
+ghost use Rattle.std.specs.Prelude.{◌≡◌, ◌+◌, ℕ, length, option_copied};
 ghost use Rattle.std.specs.List.{find};
 ghost use Rattle.hierarchy.specs.Widths.{AreWidths};
 ghost use Rattle.ruu_timing.specs.declared.timed.Timed.{Timed};
-ghost use Rattle.ruu_timing.specs.Pipeline.{IsDone, IsPipeline, HasReserve};
+ghost use Rattle.ruu_timing.specs.Pipeline.{IsDone, IsPipeline};
 ghost use Rattle.ruu_timing.specs.Schedule.{IsSchedule};
-ghost use Rattle.ruu_timing.specs.Dispatch.{access_stores, has_place_for, slot_of, store_in, source_in, written_by, HasDispatched, HasEntered, IsRegister};
+ghost use Rattle.ruu_timing.specs.Dispatch.{access_stores, has_place_for, operands_in, stored_in, written_by, written_in, HasDispatched, HasEntered, IsRegister};
 
 use crate::class::{accesses_memory, is_ecall, is_load, is_store};
+use crate::issue::give_cycle;
 use crate::pipeline::{Access, Pipeline, Slot};
 use circular_buffer::HeapCircularBuffer;
 use hierarchy::{Marked, Widths};
@@ -30,21 +31,21 @@ fn latest_store(accesses: &HeapCircularBuffer<Access>, word: u32) -> Option<&Acc
     accesses.iter().find(|access| stores_to(access, word))
 }
 
-/// The number of the latest of these that stores to a word.
-fn store_to(accesses: &HeapCircularBuffer<Access>, word: Option<u32>) -> usize
-    ensures { result ≡ store_in accesses.now.items word }
+/// When the latest of these that stores to a word completes.
+fn stored(accesses: &HeapCircularBuffer<Access>, word: Option<u32>) -> u64
+    ensures { result ≡ stored_in accesses.now.items word }
 {
     let Some(word) = word else { return 0 };
     match latest_store(accesses, word) {
-        Some(access) => access.number,
+        Some(access) => access.completion,
         None => 0,
     }
 }
 
-/// The number of the last instruction that writes a register.
-fn source(writers: &[usize], register: Option<u8>) -> usize
+/// When the last instruction that writes a register completes.
+fn written(writers: &[u64], register: Option<u8>) -> u64
     requires { length writers.now ≡ 256 }
-    ensures number { result ≡ source_in writers.now register }
+    ensures completion { result ≡ written_in writers.now register }
     ensures register { IsRegister register }
 {
     match register {
@@ -53,12 +54,12 @@ fn source(writers: &[usize], register: Option<u8>) -> usize
     }
 }
 
-fn note_writer(writers: &mut [usize], register: Option<u8>, number: usize)
+fn note_writer(writers: &mut [u64], register: Option<u8>, completion: u64)
     requires { length writers.old ≡ 256 }
-    ensures { writers.new ≡ written_by writers.old register number }
+    ensures { writers.new ≡ written_by writers.old register completion }
 {
     if let Some(register) = register {
-        writers[usize::from(register)] = number;
+        writers[usize::from(register)] = completion;
     }
 }
 
@@ -73,51 +74,53 @@ impl Pipeline {
         in_unit && (in_queue && is_first)
     }
 
-    fn slot_of(&self, mark: &Marked) -> Slot
+    /// When the registers and the word that an instruction reads are there.
+    fn operands(&self, mark: &Marked) -> u64
         requires { IsPipeline self.now }
-        ensures slot { result ≡ slot_of self.now mark.now }
+        ensures operands { result ≡ operands_in self.now mark.now }
         ensures first { IsRegister mark.now.first }
         ensures second { IsRegister mark.now.second }
     {
-        Slot {
-            class: mark.class,
-            latency: mark.latency,
-            first: source(&self.writers, mark.first),
-            second: source(&self.writers, mark.second),
-            store: if is_load(mark.class) {
-                store_to(&self.accesses, mark.word)
-            } else {
-                0
-            },
-            issue: self.cycle + 1,
-        }
+        let first = written(&self.writers, mark.first);
+        let second = written(&self.writers, mark.second);
+        let store = if is_load(mark.class) {
+            stored(&self.accesses, mark.word)
+        } else {
+            0
+        };
+        first.max(second).max(store)
     }
 
     /// Puts an instruction into the register update unit.
-    fn enter(&mut self, mark: &Marked)
+    fn enter(&mut self, w: &Widths, mark: &Marked)
+        requires widths { AreWidths w.now }
         requires pipeline { IsPipeline self.old }
-        requires room { length self.old.waiting.items < vec_capacity self.old.waiting }
-        ensures { HasEntered mark.now self.old self.new }
+        ensures { HasEntered w.now mark.now self.old self.new }
     {
-        let slot = self.slot_of(mark);
+        let next = self.cycle + 1;
+        let from = self.operands(mark).saturating_sub(next) as usize;
+        let ahead = give_cycle(&mut self.coming, w, mark.class, from);
+        let issue = next.saturating_add(ahead as u64);
+        let completion = issue.saturating_add(u64::from(mark.latency));
         self.dispatched += 1;
-        self.unit.push_front(slot);
+        self.unit.push_front(Slot {
+            class: mark.class,
+            completion,
+        });
         if accesses_memory(mark.class) {
             self.accesses.push_front(Access {
-                number: self.dispatched,
                 word: mark.word,
                 is_store: is_store(mark.class),
+                completion,
             });
         }
-        note_writer(&mut self.writers, mark.dest, self.dispatched);
-        self.waiting.push_reserved(self.dispatched);
-        self.wake = self.wake.min(slot.issue);
+        note_writer(&mut self.writers, mark.dest, completion);
     }
 
     /// Dispatches the next instruction of the fetch queue, if there is a place for it.
     fn dispatch_next(&mut self, w: &Widths) -> bool
+        requires widths { AreWidths w.now }
         requires pipeline { IsPipeline self.old }
-        requires reserve { HasReserve w.now self.old }
         ensures { HasDispatched w.now result self.old self.new }
     {
         let Some(mark) = self.queue.front().copied() else {
@@ -127,14 +130,13 @@ impl Pipeline {
             return false;
         }
         self.queue.pop_front();
-        self.enter(&mark);
+        self.enter(w, &mark);
         true
     }
 
     pub(crate) fn dispatch(&mut self, w: &Widths)
         requires widths { AreWidths w.now }
         requires pipeline { IsPipeline self.old }
-        requires reserve { HasReserve w.now self.old }
         ensures cycle { self.new.cycle ≡ self.old.cycle }
         ensures done { (n : ℕ) (x : ℕ → Timed) → IsSchedule w.now n x
             → IsDone w.now n x (self.old.cycle + 1) (self.old.cycle + 1) self.old.cycle self.old.cycle self.old

@@ -4,7 +4,7 @@ ghost use Rattle.hierarchy.specs.Widths.{AreWidths};
 ghost use Rattle.hierarchy.specs.Marked.{IsMarked};
 ghost use Rattle.ruu_timing.specs.Pipeline.{IsDone, IsPipeline};
 ghost use Rattle.ruu_timing.specs.Schedule.{timed_at};
-ghost use Rattle.ruu_timing.specs.Fetch.{arrival, last_completion, latest_is, may_begin, HasFetched};
+ghost use Rattle.ruu_timing.specs.Fetch.{is_corrected, last_completion, latest_is, may_begin, HasFetched};
 
 use crate::class::is_ecall;
 use crate::pipeline::{Latest, Pipeline};
@@ -26,14 +26,25 @@ impl Latest {
 }
 
 impl Pipeline {
-    /// When the latest instruction completes, as far as is known, where all are dispatched.
+    /// When the latest instruction completes, where all are dispatched.
     fn last_completion(&self) -> u64
         ensures { result ≡ last_completion self.now }
     {
         match self.unit.front() {
-            Some(slot) => slot.completion(),
+            Some(slot) => slot.completion,
             None => self.completion,
         }
+    }
+
+    /// Whether the penalty has passed since the latest instruction completed.
+    fn is_corrected(&self, w: &Widths) -> bool
+        ensures { result ≡ is_corrected w.now self.now }
+    {
+        if !self.queue.is_empty() {
+            return false;
+        }
+        let completion = self.last_completion();
+        completion <= self.cycle && u64::from(w.penalty) <= self.cycle - completion
     }
 
     /// Whether nothing but the instruction caches delays the next fetch, where fewer than may be
@@ -43,43 +54,32 @@ impl Pipeline {
     {
         let in_queue = self.queue.len() < w.queue as usize;
         let transferred = !self.latest.is_transferred || self.latest.fetch < self.cycle;
-        let completion = self.last_completion();
-        let corrected = self.queue.is_empty()
-            && (completion <= self.cycle && u64::from(w.penalty) <= self.cycle - completion);
-        let predicted = !self.latest.is_mispredicted || corrected;
+        let predicted = !self.latest.is_mispredicted || self.is_corrected(w);
         let called = !self.latest.is_call
             || self.retired == self.fetched && self.retirement < self.cycle;
         in_queue && (transferred && (predicted && called))
     }
 
-    /// When the next instruction is fetched, once that is known.
-    fn arrival<T: Trace>(&self, w: &Widths, trace: &T) -> Option<u64>
-        requires { IsPipeline self.now }
-        ensures { result ≡ arrival w.now (T.items trace.now) self.now }
-    {
-        if self.arriving.is_some() {
-            return self.arriving;
-        }
-        if self.fetched >= trace.len() || !self.may_begin(w) {
-            return None;
-        }
-        Some(self.cycle + u64::from(trace.at(self.fetched).stall))
-    }
-
-    /// Fetches the next instruction, if it arrives in this cycle.
+    /// Fetches the next instruction, if it arrives in this cycle, or notes when it arrives.
     fn fetch_next<T: Trace>(&mut self, w: &Widths, trace: &T) -> bool
         requires pipeline { IsPipeline self.old }
         ensures { HasFetched w.now (T.items trace.now) result self.old self.new }
     {
-        self.arriving = self.arrival(w, trace);
-        let is_there = self.arriving == Some(self.cycle) && self.fetched < trace.len();
-        if !is_there {
+        if self.fetched >= trace.len() || self.arriving.is_none() && !self.may_begin(w) {
             return false;
         }
         let mark = trace.at(self.fetched);
+        let fetch = match self.arriving {
+            Some(fetch) => fetch,
+            None => self.cycle + u64::from(mark.stall),
+        };
+        if fetch != self.cycle {
+            self.arriving = Some(fetch);
+            return false;
+        }
         self.queue.push_back(mark);
         self.fetched += 1;
-        self.latest = Latest::new(self.cycle, &mark);
+        self.latest = Latest::new(fetch, &mark);
         self.arriving = None;
         true
     }

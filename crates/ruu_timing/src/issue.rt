@@ -1,23 +1,27 @@
-//! Issue: the oldest first, of those whose operands are there, so many in a cycle and of a class.
-ghost use Rattle.std.specs.Prelude.{◌≡◌, ◌+◌, ◌≤◌, ◌<◌, ◌^◌, ℕ, Option, Some, None, length, slice_index, true};
+//! Issue: an instruction is given its cycle when it is dispatched. Dispatch is in program order and
+//! latencies are known, so all before it have theirs, and the first cycle that has room is the one in
+//! which a processor that lets the oldest go first issues it (data-flow prescheduling).
+ghost use Rattle.std.specs.Prelude.{◌≡◌, ◌+◌, ◌<◌, ℕ, true, length, drop};
 ghost use Rattle.circular_buffer.specs.Buffer.{buffer};
+ghost use Rattle.hierarchy.specs.declared.widths.Widths.{Widths as WidthsValue};
 ghost use Rattle.hierarchy.specs.Widths.{AreWidths};
 ghost use Rattle.ruu_timing.specs.declared.timed.Timed.{Timed};
-ghost use Rattle.ruu_timing.specs.Pipeline.{IsDone, IsPipeline, IsSafe};
+ghost use Rattle.ruu_timing.specs.Laws.{IsFirst};
+ghost use Rattle.ruu_timing.specs.Pipeline.{issued_ahead, IsDone};
 ghost use Rattle.ruu_timing.specs.Schedule.{IsSchedule};
-ghost use Rattle.ruu_timing.specs.Issue.{completion_in, has_room, issue_at, wait_of, wake_in, with_one_more, HasLooked, HasPut};
+ghost use Rattle.ruu_timing.specs.Issue.{has_room, with_one_more, counted_at, IsGiven};
 
 use crate::class::{limit_of, number_of};
-use crate::pipeline::{Pipeline, Slot};
+use crate::pipeline::Pipeline;
 use circular_buffer::HeapCircularBuffer;
 use hierarchy::Widths;
 use rv_isa::Class;
 
-/// How many instructions have issued in a cycle, and how many of each class.
+/// How many instructions issue in a cycle, and how many of each class: at most 8, as the widths.
 #[derive(Clone, Copy, Debug)]
 pub(crate) struct Issued {
-    pub(crate) all: u32,
-    pub(crate) alike: [u32; 7],
+    pub(crate) all: u8,
+    pub(crate) alike: [u8; 7],
 }
 
 impl Issued {
@@ -30,132 +34,87 @@ impl Issued {
     fn has_room(&self, w: &Widths, class: Class) -> bool
         ensures { result ≡ has_room w.now self.now class }
     {
-        self.all < w.issue && self.alike[number_of(class)] < limit_of(w, class)
+        u32::from(self.all) < w.issue
+            && u32::from(self.alike[number_of(class)]) < limit_of(w, class)
     }
 
     /// Counts one more.
-    fn count(&mut self, w: &Widths, class: Class)
-        requires widths { AreWidths w.now }
-        requires room { has_room w.now self.old class ≡ true }
+    fn count(&mut self, class: Class)
         ensures { self.new ≡ with_one_more class self.old }
     {
-        self.all += 1;
-        self.alike[number_of(class)] += 1;
+        let place = number_of(class);
+        self.all = self.all.saturating_add(1);
+        self.alike[place] = self.alike[place].saturating_add(1);
     }
 }
 
-/// Notes in which cycle the instruction in a place of the register update unit issues.
-fn note_issue(unit: &mut HeapCircularBuffer<Slot>, place: usize, issue: u64)
-    ensures { unit.new ≡ buffer (issue_at unit.old.items place issue) unit.old.capacity }
+/// How many issue so many cycles ahead.
+fn issued_ahead(coming: &HeapCircularBuffer<Issued>, ahead: usize) -> Issued
+    ensures { result ≡ issued_ahead coming.now.items ahead }
 {
-    if let Some(slot) = unit.get_mut(place) {
-        slot.issue = issue;
+    match coming.get(ahead) {
+        Some(issued) => *issued,
+        None => Issued::NONE,
     }
+}
+
+/// The first cycle from one on that has room.
+fn first_room(coming: &HeapCircularBuffer<Issued>, w: &Widths, class: Class, from: usize) -> usize
+    requires { AreWidths w.now }
+    ensures { IsFirst (λ k. has_room w.now (issued_ahead coming.now.items k) class) from result }
+{
+    for ahead in from..coming.len() {
+        if issued_ahead(coming, ahead).has_room(w, class) {
+            return ahead;
+        }
+    }
+    from.max(coming.len())
+}
+
+/// Counts on to a cycle. No trace needs one that doesn't fit.
+fn reach(coming: &mut HeapCircularBuffer<Issued>, ahead: usize)
+    ensures capacity { coming.new.capacity ≡ coming.old.capacity }
+    ensures reached { ahead < coming.old.capacity → ahead < length coming.new.items }
+    ensures same { (k : ℕ) → issued_ahead coming.new.items k ≡ issued_ahead coming.old.items k }
+{
+    while coming.len() <= ahead && !coming.is_full() {
+        coming.push_back(Issued::NONE);
+    }
+}
+
+fn count_ahead(coming: &mut HeapCircularBuffer<Issued>, class: Class, ahead: usize)
+    ensures { coming.new ≡ buffer (counted_at coming.old.items ahead class) coming.old.capacity }
+{
+    if let Some(issued) = coming.get_mut(ahead) {
+        issued.count(class);
+    }
+}
+
+/// Gives an instruction the first cycle from one on that has room, and answers which it is.
+pub(crate) fn give_cycle(
+    coming: &mut HeapCircularBuffer<Issued>,
+    w: &Widths,
+    class: Class,
+    from: usize,
+) -> usize
+    requires { AreWidths w.now }
+    ensures { IsGiven w.now class from result coming.old coming.new }
+{
+    let ahead = first_room(coming, w, class, from);
+    reach(coming, ahead);
+    count_ahead(coming, class, ahead);
+    ahead
 }
 
 impl Pipeline {
-    /// By when an instruction has completed. One that is retired isn't waited for.
-    fn completion_of(&self, number: usize) -> u64
-        requires number { number ≤ self.now.dispatched }
-        ensures { result ≡ completion_in self.now number }
-    {
-        match self.unit.get(self.dispatched - number) {
-            Some(slot) => slot.completion(),
-            None => 0,
-        }
-    }
-
-    /// By when an instruction's operands are there.
-    fn wake_of(&self, slot: &Slot) -> u64
-        requires { IsSafe self.now.dispatched slot.now }
-        ensures { result ≡ wake_in self.now slot.now }
-    {
-        let first = self.completion_of(slot.first);
-        let second = self.completion_of(slot.second);
-        slot.issue
-            .max(first)
-            .max(second.max(self.completion_of(slot.store)))
-    }
-
-    /// Until when an instruction waits, where it doesn't issue in this cycle.
-    fn wait_of(&self, w: &Widths, issued: &Issued, slot: &Slot) -> Option<u64>
-        requires cycle { self.now.cycle ≤ 2 ^ 33 }
-        requires safe { IsSafe self.now.dispatched slot.now }
-        ensures { result ≡ wait_of w.now issued.now self.now slot.now }
-    {
-        if self.cycle < slot.issue {
-            return Some(slot.issue);
-        }
-        let wake = self.wake_of(slot);
-        if wake <= self.cycle && issued.has_room(w, slot.class) {
-            return None;
-        }
-        Some(wake.max(self.cycle + 1))
-    }
-
-    /// Issues an instruction of the register update unit, if it can, or notes until when it waits.
-    /// Answers whether it waits.
-    fn look(&mut self, w: &Widths, issued: &mut Issued, number: usize) -> bool
-        requires widths { AreWidths w.now }
-        requires pipeline { IsPipeline self.old }
-        requires number { number ≤ self.old.dispatched }
-        ensures { HasLooked w.now number result issued.old issued.new self.old self.new }
-    {
-        let place = self.dispatched - number;
-        let Some(slot) = self.unit.get(place).copied() else {
-            return false;
-        };
-        match self.wait_of(w, issued, &slot) {
-            None => {
-                issued.count(w, slot.class);
-                note_issue(&mut self.unit, place, self.cycle);
-                false
-            }
-            Some(wake) => {
-                note_issue(&mut self.unit, place, wake);
-                self.wake = self.wake.min(wake);
-                true
-            }
-        }
-    }
-
-    /// The `i`-th of those that wait, the oldest first.
-    fn waiting_at(&self, i: usize) -> usize
-        requires { i < length self.now.waiting.items }
-        ensures { result ≡ slice_index self.now.waiting.items i }
-    {
-        self.waiting[i]
-    }
-
-    /// Puts an instruction that waits on to a place among those that wait.
-    fn keep(&mut self, place: usize, number: usize)
-        requires { place < length self.old.waiting.items }
-        ensures { HasPut place number self.old self.new }
-    {
-        self.waiting[place] = number;
-    }
-
-    pub(crate) fn issue(&mut self, w: &Widths)
-        requires widths { AreWidths w.now }
-        requires pipeline { IsPipeline self.old }
+    /// Those that were given this cycle issue.
+    pub(crate) fn issue(&mut self)
         ensures cycle { self.new.cycle ≡ self.old.cycle }
-        ensures done { (n : ℕ) (x : ℕ → Timed) → IsSchedule w.now n x
-            → IsDone w.now n x (self.old.cycle + 1) self.old.cycle self.old.cycle self.old.cycle self.old
-            → IsDone w.now n x (self.old.cycle + 1) (self.old.cycle + 1) self.old.cycle self.old.cycle self.new }
+        ensures same { self.new ≡ record self.old { coming = buffer (drop 1 self.old.coming.items) self.old.coming.capacity } }
+        ensures done { (w : WidthsValue) (n : ℕ) (x : ℕ → Timed) → IsSchedule w n x
+            → IsDone w n x (self.old.cycle + 1) self.old.cycle self.old.cycle self.old.cycle self.old
+            → IsDone w n x (self.old.cycle + 1) (self.old.cycle + 1) self.old.cycle self.old.cycle self.new }
     {
-        if self.cycle < self.wake {
-            return;
-        }
-        let mut issued = Issued::NONE;
-        let mut kept = 0;
-        self.wake = u64::MAX;
-        for i in 0..self.waiting.len() {
-            let number = self.waiting_at(i);
-            if self.look(w, &mut issued, number) {
-                self.keep(kept, number);
-                kept += 1;
-            }
-        }
-        self.waiting.truncate(kept);
+        self.coming.pop_front();
     }
 }

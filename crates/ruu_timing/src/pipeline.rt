@@ -1,41 +1,28 @@
 //! What the processor holds while a trace runs through it.
-ghost use Rattle.std.specs.Prelude.{◌≡◌, IfOk};
-ghost use Rattle.ruu_timing.specs.Pipeline.{IsEmpty, IsSized, completes};
+ghost use Rattle.std.specs.Prelude.{IfOk};
+ghost use Rattle.hierarchy.specs.Widths.{AreWidths};
+ghost use Rattle.ruu_timing.specs.Pipeline.{IsEmpty, IsSized};
 
+use crate::issue::Issued;
 use circular_buffer::HeapCircularBuffer;
 use hierarchy::{Marked, Widths};
 use rv_isa::Class;
 use smarts_base::NoMemory;
 use std::alloc::Global;
 
-/// An instruction in the register update unit. Instructions are numbered from 1 on, and 0 stands for none.
+/// An instruction in the register update unit.
 #[derive(Clone, Copy, Debug)]
 pub(crate) struct Slot {
     pub(crate) class: Class,
-    pub(crate) latency: u32,
-    /// The last writers of its registers, and of a load the last store to its word.
-    pub(crate) first: usize,
-    pub(crate) second: usize,
-    pub(crate) store: usize,
-    /// It issues in no earlier cycle, and has issued in this one once it doesn't wait.
-    pub(crate) issue: u64,
-}
-
-impl Slot {
-    /// When it completes, as far as is known. No trace is so long that this saturates.
-    pub(crate) fn completion(&self) -> u64
-        ensures { result ≡ completes self.now }
-    {
-        self.issue.saturating_add(u64::from(self.latency))
-    }
+    pub(crate) completion: u64,
 }
 
 /// A load or store in the load and store queue.
 #[derive(Clone, Copy, Debug)]
 pub(crate) struct Access {
-    pub(crate) number: usize,
     pub(crate) word: Option<u32>,
     pub(crate) is_store: bool,
+    pub(crate) completion: u64,
 }
 
 /// What the fetch behind the latest instruction may have to wait for.
@@ -77,16 +64,19 @@ pub(crate) struct Pipeline {
     pub(crate) unit: HeapCircularBuffer<Slot>,
     /// The load and store queue, the latest first.
     pub(crate) accesses: HeapCircularBuffer<Access>,
-    /// The numbers of those in the register update unit that haven't issued, in program order.
-    pub(crate) waiting: Vec<usize>,
-    /// None of them issues in an earlier cycle.
-    pub(crate) wake: u64,
-    /// The number of the last instruction that writes each register.
-    pub(crate) writers: Vec<usize>,
+    /// How many issue in the coming cycles, the next of them first.
+    pub(crate) coming: HeapCircularBuffer<Issued>,
+    /// When the last instruction that writes each register completes.
+    pub(crate) writers: Vec<u64>,
 }
+
+/// The cycles that may pass from an instruction's dispatch to its issue, for each place of the register
+/// update unit: as if each of those in it waited for the one before, at the longest latency.
+const MOST_CYCLES: usize = 1217;
 
 impl Pipeline {
     pub(crate) fn new(alloc: Global, w: &Widths) -> Result<Pipeline, NoMemory>
+        requires { AreWidths w.now }
         ensures { IfOk result (λ pipeline. IsSized w.now pipeline) }
     {
         Ok(Pipeline {
@@ -101,8 +91,7 @@ impl Pipeline {
             queue: HeapCircularBuffer::with_capacity(alloc, w.queue as usize)?,
             unit: HeapCircularBuffer::with_capacity(alloc, w.ruu as usize)?,
             accesses: HeapCircularBuffer::with_capacity(alloc, w.lsq as usize)?,
-            waiting: Vec::with_capacity(alloc, w.ruu as usize)?,
-            wake: u64::MAX,
+            coming: HeapCircularBuffer::with_capacity(alloc, w.ruu as usize * MOST_CYCLES)?,
             writers: vec![in alloc; 0; 256]?,
         })
     }
@@ -123,8 +112,7 @@ impl Pipeline {
         self.queue.clear();
         self.unit.clear();
         self.accesses.clear();
-        self.waiting.clear();
-        self.wake = u64::MAX;
+        self.coming.clear();
         self.writers.fill(0);
     }
 }

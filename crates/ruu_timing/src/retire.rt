@@ -19,15 +19,14 @@ impl Pipeline {
         let Some(oldest) = self.unit.back().copied() else {
             return false;
         };
-        let completion = oldest.completion();
-        if self.cycle <= completion {
+        if self.cycle <= oldest.completion {
             return false;
         }
         self.unit.pop_back();
         if accesses_memory(oldest.class) {
             self.accesses.pop_back();
         }
-        self.completion = completion;
+        self.completion = oldest.completion;
         self.retirement = self.cycle;
         self.retired += 1;
         true

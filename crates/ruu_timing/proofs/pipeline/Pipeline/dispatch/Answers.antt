@@ -1,10 +1,9 @@
-use Rattle.std.proofs.Common.{◌+◌, ◌∙◌, true, false, subst, arith}
+use Rattle.std.proofs.Common.{◌≡◌, ◌+◌, ◌∙◌, true, false, subst, arith}
 use Rattle.hierarchy.specs.declared.widths.Widths.{Widths}
 use Rattle.ruu_timing.specs.declared.pipeline.Pipeline.{Pipeline}
-use Rattle.ruu_timing.specs.Pipeline.{IsDone}
+use Rattle.ruu_timing.specs.Pipeline.{IsDone, IsPipeline}
 use Rattle.ruu_timing.specs.Dispatch.{HasDispatched}
-use Rattle.ruu_timing.proofs.Dispatching.{dispatching_more, dispatched_last, dispatched_full}
-use Rattle.ruu_timing.proofs.Reserves.{sound_kept, cycle_kept}
+use Rattle.ruu_timing.proofs.Dispatching.{dispatches_safely, dispatching_more, dispatched_last, dispatched_full}
 use Rattle.ruu_timing.proofs.pipeline.Pipeline.dispatch.Goals as goal
 
 pub loop-count-preserved : goal.loop-count-preserved
@@ -13,9 +12,10 @@ loop-count-preserved c =
     let p : Pipeline = c.loop-count.self in
     let q : Pipeline = c.dispatch_next.new.self in
     let more : HasDispatched w true p q =
-    subst (λ b. HasDispatched w b p q) c.if-not-dispatch_next.false c.dispatch_next.ensures in (
-      sound_kept w p q c.loop-count.invariant.0 more,
-      cycle_kept w p q more ∙ c.loop-count.invariant.1,
+    subst (λ b. HasDispatched w b p q) c.if-not-dispatch_next.false c.dispatch_next.ensures in
+    let safely : IsPipeline q × (q.cycle ≡ p.cycle) = dispatches_safely w p q c.loop-count.invariant.0 more in (
+      safely.0,
+      safely.1 ∙ c.loop-count.invariant.1,
       λ n x is done.
           dispatching_more w n x c.args.self.now.dispatched c.loop-count._count p q c.requires.widths is
           (c.loop-count.invariant.2 n x is done) c.loop-count-test.true more,

@@ -18,7 +18,7 @@ loop-count-preserved c =
       cycle = omega (arith, next.cycle, inv.cycle);
       retiring = λ n x is done.
           retires_more c.args.w.now n x c.args.self.now.retired c.args.self.now.cycle c.loop-count._count c.loop-count.self c.retire_oldest.new.self
-          is c.requires.pipeline.cycle inv.cycle (inv.retiring n x is done) (omega arith) c.if-not-retire_oldest.ensures;
+          is inv.cycle (inv.retiring n x is done) (omega arith) c.if-not-retire_oldest.ensures;
     }
 
 pub returns-clause-done : goal.returns-clause-done

@@ -4,8 +4,7 @@ use Rattle.hierarchy.specs.declared.widths.Widths.{Widths}
 use Rattle.ruu_timing.specs.declared.timed.Timed.{Timed}
 use Rattle.ruu_timing.specs.Pipeline.{IsDone}
 use Rattle.ruu_timing.specs.Schedule.{IsSchedule, timed_at}
-use Rattle.ruu_timing.proofs.Reserves.{held_reserve}
-use Rattle.ruu_timing.proofs.Safety.{held_pipeline}
+use Rattle.ruu_timing.proofs.FetchQueue.{held_pipeline}
 use Rattle.ruu_timing.proofs.Schedules.{schedule_is}
 use Rattle.ruu_timing.proofs.pipeline.Pipeline.step.Goals as goal
 
@@ -13,17 +12,7 @@ pub retire-requires-clause-pipeline : goal.retire-requires-clause-pipeline
 retire-requires-clause-pipeline g c =
     let ms : List Marked = g.T.Trace.items c.args.trace.now in
     let w : Widths = c.args.w.now in
-    held_pipeline w (length ms) (timed_at w ms) c.args.self.now.cycle c.args.self.now
-    (schedule_is w ms c.requires.widths c.requires.few c.requires.marks) c.requires.done.held c.requires.room
-
-pub issue-requires-clause-pipeline : goal.issue-requires-clause-pipeline
-issue-requires-clause-pipeline g c =
-    let ms : List Marked = g.T.Trace.items c.args.trace.now in
-    let w : Widths = c.args.w.now in
-    let x : ℕ → Timed = timed_at w ms in
-    let is : IsSchedule w (length ms) x = schedule_is w ms c.requires.widths c.requires.few c.requires.marks in
-    held_pipeline w (length ms) x c.args.self.now.cycle c.retire.new.self is
-    (c.retire.ensures.done (length ms) x is c.requires.done).held (omega (arith, c.retire.ensures.cycle, c.requires.room))
+    held_pipeline w (length ms) (timed_at w ms) c.args.self.now.cycle c.args.self.now c.requires.done.held c.requires.few c.requires.room
 
 pub dispatch-requires-clause-pipeline : goal.dispatch-requires-clause-pipeline
 dispatch-requires-clause-pipeline g c =
@@ -35,21 +24,8 @@ dispatch-requires-clause-pipeline g c =
     let is : IsSchedule w n x = schedule_is w ms c.requires.widths c.requires.few c.requires.marks in
     let retired : IsDone w n x (r + 1) r r r c.retire.new.self =
     subst (λ s. IsDone w n x (s + 1) s s s c.retire.new.self) (sym c.retire.ensures.cycle) (c.retire.ensures.done n x is c.requires.done) in
-    held_pipeline w n x (r + 1) c.issue.new.self is (c.issue.ensures.done n x is retired).held
+    held_pipeline w n x (r + 1) c.issue.new.self (c.issue.ensures.done w n x is retired).held c.requires.few
     (omega (arith, c.issue.ensures.cycle, c.retire.ensures.cycle, c.requires.room))
-
-pub dispatch-requires-clause-reserve : goal.dispatch-requires-clause-reserve
-dispatch-requires-clause-reserve g c =
-    let ms : List Marked = g.T.Trace.items c.args.trace.now in
-    let w : Widths = c.args.w.now in
-    let n : ℕ = length ms in
-    let x : ℕ → Timed = timed_at w ms in
-    let r : ℕ = c.retire.new.self.cycle in
-    let is : IsSchedule w n x = schedule_is w ms c.requires.widths c.requires.few c.requires.marks in
-    let retired : IsDone w n x (r + 1) r r r c.retire.new.self =
-    subst (λ s. IsDone w n x (s + 1) s s s c.retire.new.self) (sym c.retire.ensures.cycle) (c.retire.ensures.done n x is c.requires.done) in
-    let issued : IsDone w n x (r + 1) (r + 1) r r c.issue.new.self = c.issue.ensures.done n x is retired in
-    held_reserve w n x (r + 1) c.issue.new.self is issued.held issued.retired
 
 pub fetch-requires-clause-pipeline : goal.fetch-requires-clause-pipeline
 fetch-requires-clause-pipeline g c =
@@ -63,8 +39,8 @@ fetch-requires-clause-pipeline g c =
     let retired : IsDone w n x (r + 1) r r r c.retire.new.self =
     subst (λ s. IsDone w n x (s + 1) s s s c.retire.new.self) (sym c.retire.ensures.cycle) (c.retire.ensures.done n x is c.requires.done) in
     let issued : IsDone w n x (i + 1) (i + 1) i i c.issue.new.self =
-    subst (λ s. IsDone w n x (s + 1) (s + 1) s s c.issue.new.self) (sym c.issue.ensures.cycle) (c.issue.ensures.done n x is retired) in
-    held_pipeline w n x (i + 1) c.dispatch.new.self is (c.dispatch.ensures.done n x is issued).held
+    subst (λ s. IsDone w n x (s + 1) (s + 1) s s c.issue.new.self) (sym c.issue.ensures.cycle) (c.issue.ensures.done w n x is retired) in
+    held_pipeline w n x (i + 1) c.dispatch.new.self (c.dispatch.ensures.done n x is issued).held c.requires.few
     (omega (arith, c.dispatch.ensures.cycle, c.issue.ensures.cycle, c.retire.ensures.cycle, c.requires.room))
 
 pub fetch-requires-clause-done : goal.fetch-requires-clause-done
@@ -79,5 +55,5 @@ fetch-requires-clause-done g c =
     let retired : IsDone w n x (r + 1) r r r c.retire.new.self =
     subst (λ s. IsDone w n x (s + 1) s s s c.retire.new.self) (sym c.retire.ensures.cycle) (c.retire.ensures.done n x is c.requires.done) in
     let issued : IsDone w n x (i + 1) (i + 1) i i c.issue.new.self =
-    subst (λ s. IsDone w n x (s + 1) (s + 1) s s c.issue.new.self) (sym c.issue.ensures.cycle) (c.issue.ensures.done n x is retired) in
+    subst (λ s. IsDone w n x (s + 1) (s + 1) s s c.issue.new.self) (sym c.issue.ensures.cycle) (c.issue.ensures.done w n x is retired) in
     subst (λ s. IsDone w n x (s + 1) (s + 1) (s + 1) s c.dispatch.new.self) (sym c.dispatch.ensures.cycle) (c.dispatch.ensures.done n x is issued)
