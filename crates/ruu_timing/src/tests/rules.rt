@@ -6,7 +6,7 @@ use std::test::Fail;
 #[test]
 fn times_by_each_rule(rt: HostRuntime) -> Result<(), Fail> {
     // The widths, the trace, the skip, the times of the last instruction, and the cycles.
-    let cases: [(Widths, &[Marked], usize, [u64; 5], u64); 25] = [
+    let cases: [(Widths, &[Marked], usize, [u64; 5], u64); 26] = [
         // Fetch width.
         (
             Widths { fetch: 1, ..WIDTHS },
@@ -338,6 +338,23 @@ fn times_by_each_rule(rt: HostRuntime) -> Result<(), Fail> {
             4,
             [95, 96, 97, 98, 99],
             50,
+        ),
+        // Each waits for the one before, at the longest latency, in a full unit.
+        (
+            Widths {
+                ruu: 4,
+                lsq: 4,
+                ..WIDTHS
+            },
+            &[Marked {
+                first: Some(1),
+                dest: Some(1),
+                latency: 1216,
+                ..LOAD
+            }; 6],
+            0,
+            [1, 2435, 6082, 7298, 7299],
+            7299,
         ),
     ];
     for (widths, items, skip, last, total) in cases {
