@@ -4,6 +4,7 @@ the most memory that each held.
 The program is the one that `rt ci` or ./turbosmarts left. The images and the reference program's sources
 are those beside the repository; where they are missing there is nothing to compare.
 """
+import contextlib
 import os
 import shutil
 import subprocess
@@ -34,24 +35,47 @@ def seconds(command, image):
     return taken, usage.ru_maxrss / 1024
 
 
-def compare(words, work=WORK):
-    """Times both programs with these words on each image."""
+@contextlib.contextmanager
+def reference():
+    """The reference program as a command, made anew, or None where there is nothing to compare with."""
     if not os.path.isdir(IMAGES) or not shutil.which("g++") or not os.path.isfile(PROGRAM):
         print("nothing to compare: the images, g++ or the built program are missing")
+        yield None
         return
     with tempfile.TemporaryDirectory() as folder:
         sources = os.path.join(folder, "reference")
         shutil.copytree(os.path.join(SHARED, "oracle"), sources)
         subprocess.run(["chmod", "-R", "u+w", sources], check=True)
         subprocess.run(["make", "-s", "-C", sources], check=True, stdout=subprocess.DEVNULL)
-        reference = [os.path.join(sources, "oracle"), "--format", "1", "--no-forward"]
-        for name, count in work:
+        yield [os.path.join(sources, "oracle"), "--format", "1", "--no-forward"]
+
+
+def best(commands, image):
+    """The least seconds that each command takes on an image, run in turn, and the most memory that it holds."""
+    turns = [[seconds(command, image) for command in commands] for _ in range(TURNS)]
+    return [(min(taken for taken, _ in runs), max(held for _, held in runs)) for runs in zip(*turns)]
+
+
+def compare(words, work=WORK):
+    """Times both programs with these words on each image."""
+    with reference() as theirs:
+        for name, count in work if theirs else []:
             image = os.path.join(IMAGES, name) if name else os.devnull
-            ours, theirs = [], []
-            for _ in range(TURNS):
-                ours.append(seconds([PROGRAM] + words, image))
-                theirs.append(seconds(reference + words, image))
-            mine, other = min(ours)[0], min(theirs)[0]
+            (mine, held), (other, other_held) = best([[PROGRAM] + words, theirs + words], image)
             print("%-40s %-14s %6.1f M instructions/s, reference %6.1f, ratio %.2f; %5.1f MiB, reference %5.1f"
-                  % (" ".join(words), name, count / mine / 1e6, count / other / 1e6, other / mine,
-                     max(ours, key=lambda x: x[1])[1], max(theirs, key=lambda x: x[1])[1]))
+                  % (" ".join(words), name, count / mine / 1e6, count / other / 1e6, other / mine, held, other_held))
+
+
+def compare_timing(words, unit, warm, often, seldom):
+    """What the timing of an instruction takes in both programs: a run whose windows are timed often beside one
+    in which they are timed seldom. All else is the same, since each marks the run once."""
+    words = ["sample", "unit=%d" % unit, "warm=%d" % warm, "min=65536"] + words
+    with reference() as theirs:
+        for name, count in WORK if theirs else []:
+            commands = [program + words + ["every=%d" % every]
+                        for program in ([PROGRAM], theirs[:1] + ["--marked"] + theirs[1:]) for every in (often, seldom)]
+            more, less, other_more, other_less = (taken for taken, _ in best(commands, os.path.join(IMAGES, name)))
+            units = count // unit
+            timed = (len(range(0, units, often)) - len(range(0, units, seldom))) * (unit + warm)
+            print("%-40s %-14s %6.1f ns to time an instruction, reference %6.1f"
+                  % (" ".join(words), name, (more - less) / timed * 1e9, (other_more - other_less) / timed * 1e9))
