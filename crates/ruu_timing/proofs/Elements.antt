@@ -1,5 +1,5 @@
 -- What holds of each element of a list, and the elements of lists.
-use Rattle.std.proofs.Common.{All, Bool, Bor, List, None, Option, Some, arith, cond, false, filter, option_copied, refl, subst, suc, sym, take, true, zero, ℕ, ◌≡◌, [], ◌∷◌}
+use Rattle.std.proofs.Common.{All, Bool, Bor, List, None, Option, Some, arith, cond, false, filter, length, option_copied, refl, subst, suc, sym, take, true, zero, ℕ, ◌≡◌, ◌≤◌, [], ◌∷◌}
 use Rattle.std.specs.List.{find, slice_get}
 use Rattle.std.specs.Option.{IfSome}
 use Rattle.ruu_timing.specs.Rows.{Each}
@@ -54,3 +54,9 @@ pub lent :
     → IfSome r (λ x. P x.now)
 lent P None o e there = tt
 lent {X = X} P (Some x) o e there = let Q : Option X → Type 0 = λ q. IfSome q P in subst Q (sym e) there
+
+-- where a list has no element it ends
+pub ends_by : {X : Type 0} (xs : List X) (i : ℕ) → slice_get xs i ≡ None → length xs ≤ i
+ends_by [] i none = omega arith
+ends_by (x ∷ xs) zero none = absurd (cc)
+ends_by (x ∷ xs) (suc i) none = omega (arith, ends_by xs i none)

@@ -1,5 +1,5 @@
 -- The instructions that are fetched in a cycle.
-use Rattle.std.proofs.Common.{Bool, List, None, Option, Some, ap, arith, false, inl, inr, length, refl, subst, suc, sym, true, zero, ℕ, ◌≡◌, ◌≢◌, ◌⊎◌, ◌+◌, ◌<◌, ◌≤◌, [], ◌∷◌}
+use Rattle.std.proofs.Common.{Bool, List, None, Option, Some, ap, arith, false, inl, inr, length, refl, subst, suc, sym, true, ℕ, ◌≡◌, ◌≢◌, ◌⊎◌, ◌+◌, ◌<◌, ◌≤◌}
 use Rattle.std.proofs.lemmas.Bool.{cases_eq}
 use Rattle.std.proofs.lemmas.Option.{none-some, same_Some, slice_get_within}
 use Rattle.std.specs.List.{slice_get}
@@ -14,6 +14,7 @@ use Rattle.ruu_timing.specs.Times.{next_fetch}
 use Rattle.ruu_timing.specs.declared.pipeline.Pipeline.{Pipeline}
 use Rattle.ruu_timing.specs.declared.timed.Timed.{Timed}
 use Rattle.ruu_timing.proofs.Counts.{counted, counting_more, width_waits}
+use Rattle.ruu_timing.proofs.Elements.{ends_by}
 use Rattle.ruu_timing.proofs.FetchQueue.{arriving_kept, queue_more}
 use Rattle.ruu_timing.proofs.FetchTimes.{IsFetching, room_in_queue, tells_begin}
 use Rattle.ruu_timing.proofs.Rising.{fetch_next, fetch_rises}
@@ -51,11 +52,6 @@ arrives w ms x start count p at widths are fetching room there =
           room = room_in_queue w (length ms) x start count p widths fetching tells;
         }
 
-found_within : (ms : List Marked) (i : ℕ) → slice_get ms i ≡ None → length ms ≤ i
-found_within [] i e = omega arith
-found_within (m ∷ ms) zero e = absurd (cc)
-found_within (m ∷ ms) (suc i) e = omega (arith, found_within ms i e)
-
 -- none arrives
 pub waits :
     (w : Widths) (ms : List Marked) (x : ℕ → Timed) (start count : ℕ) (p : Pipeline) → AreWidths w → AreTimes w ms x
@@ -70,7 +66,7 @@ waits w ms x start count p widths are fetching room none within =
         → Tells begins (begin_at w x p.fetched) p.cycle → arrival_of arriving begins p.cycle found ≡ None
         → p.cycle < begin_at w x p.fetched
     go (Some a) begins found e tells none = absurd (cc)
-    go None begins None e tells none = absurd (omega (arith, found_within ms p.fetched e))
+    go None begins None e tells none = absurd (omega (arith, ends_by ms p.fetched e))
     go None true (Some m) e tells none = absurd (cc)
     go None false (Some m) e tells none = tells
 

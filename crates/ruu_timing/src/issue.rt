@@ -1,7 +1,7 @@
 //! Issue: an instruction is given its cycle when it is dispatched. Dispatch is in program order and
 //! latencies are known, so all before it have theirs, and the first cycle that has room is the one in
 //! which a processor that lets the oldest go first issues it (data-flow prescheduling).
-ghost use Rattle.std.specs.Prelude.{◌≡◌, ◌+◌, ◌<◌, ℕ, true, length, drop};
+ghost use Rattle.std.specs.Prelude.{◌≡◌, ◌+◌, ◌<◌, ℕ, length, drop, slice_set};
 ghost use Rattle.circular_buffer.specs.Buffer.{buffer};
 ghost use Rattle.hierarchy.specs.declared.widths.Widths.{Widths as WidthsValue};
 ghost use Rattle.hierarchy.specs.Widths.{AreWidths};
@@ -9,7 +9,7 @@ ghost use Rattle.ruu_timing.specs.declared.timed.Timed.{Timed};
 ghost use Rattle.ruu_timing.specs.Laws.{IsFirst};
 ghost use Rattle.ruu_timing.specs.Pipeline.{issued_ahead, IsDone};
 ghost use Rattle.ruu_timing.specs.Schedule.{IsSchedule};
-ghost use Rattle.ruu_timing.specs.Issue.{has_room, with_one_more, counted_at, IsGiven};
+ghost use Rattle.ruu_timing.specs.Issue.{has_room, with_one_more, IsGiven};
 
 use crate::class::{limit_of, number_of};
 use crate::pipeline::Pipeline;
@@ -83,7 +83,9 @@ fn reach(coming: &mut HeapCircularBuffer<Issued>, ahead: usize)
 }
 
 fn count_ahead(coming: &mut HeapCircularBuffer<Issued>, class: Class, ahead: usize)
-    ensures { coming.new ≡ buffer (counted_at coming.old.items ahead class) coming.old.capacity }
+    ensures capacity { coming.new.capacity ≡ coming.old.capacity }
+    ensures items { coming.new.items ≡
+        slice_set coming.old.items ahead (with_one_more class (issued_ahead coming.old.items ahead)) }
 {
     if let Some(issued) = coming.get_mut(ahead) {
         issued.count(class);

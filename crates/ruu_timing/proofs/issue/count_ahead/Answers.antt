@@ -1,15 +1,11 @@
-use Rattle.std.proofs.Common.{ap, sym}
-use Rattle.circular_buffer.specs.Buffer.{buffer}
-use Rattle.ruu_timing.proofs.Ahead.{counted_set, counted_none}
+use Rattle.std.proofs.Common.{sym}
+use Rattle.std.proofs.lemmas.List.{set_past}
+use Rattle.ruu_timing.specs.Issue.{with_one_more}
+use Rattle.ruu_timing.specs.Pipeline.{issued_ahead}
+use Rattle.ruu_timing.proofs.Elements.{ends_by}
 use Rattle.ruu_timing.proofs.issue.count_ahead.Goals as goal
 
-pub returns-in-Some : goal.returns-in-Some
-returns-in-Some c =
-    rw c.count.ensures
-    (ap (λ l. buffer l c.args.coming.now.capacity)
-    (counted_set c.args.coming.now.items c.args.ahead c.args.class c.in-Some.issued.now (sym c.in-Some.ensures.value)))
-
-pub returns-in_default : goal.returns-in_default
-returns-in_default c =
-    ap (λ l. buffer l c.args.coming.now.capacity)
-    (counted_none c.args.coming.now.items c.args.ahead c.args.class (sym c.in_default.ensures.value))
+pub returns-in_default-clause-items : goal.returns-in_default-clause-items
+returns-in_default-clause-items c =
+    sym (set_past c.args.coming.now.items c.args.ahead (with_one_more c.args.class (issued_ahead c.args.coming.now.items c.args.ahead))
+    (ends_by c.args.coming.now.items c.args.ahead (sym c.in_default.ensures.value)))
