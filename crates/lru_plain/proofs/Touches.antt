@@ -1,7 +1,7 @@
 -- Lists of blocks under a touch.
-use Rattle.std.proofs.Common.{◌≡◌, ℕ, ◌+◌, ◌-◌, ◌<◌, ◌≤◌, List, [], ◌∷◌, ◌++◌, length, get_or, take, drop, set, zero, suc, refl, sym, ◌∙◌, ap, arith, inl, inr, eq-eqb, add-one}
+use Rattle.std.proofs.Common.{◌≡◌, ℕ, ◌+◌, ◌-◌, ◌<◌, List, [], ◌∷◌, ◌++◌, length, get_or, take, drop, set, zero, suc, refl, sym, ◌∙◌, ap, arith, eq-eqb, add-one}
 use Rattle.std.specs.List.{Contains, refill}
-use Rattle.std.proofs.lemmas.Bool.{cases_eq, ne_eqb}
+use Rattle.std.proofs.lemmas.Bool.{ne_eqb}
 use Rattle.std.proofs.Math.Seq.{drop-cons}
 use Rattle.std.proofs.lemmas.List.{append_assoc, take_all, drop_all, take_more, take_at, append-nil, length_push, set_at, get_or-append_right, get_or-drop, length-take-le}
 use Rattle.std.proofs.lemmas.Grind.{get_or_default_zero}
@@ -92,34 +92,6 @@ pub absent_at :
     (block : ℕ) (blocks : List ℕ) → (Contains blocks block → ⊥)
     → (k : ℕ) → k < length blocks → get_or blocks k 0 ≡ block → ⊥
 absent_at block blocks none k h there = none (contains_at block blocks k h there)
-
-length-later :
-    (block x : ℕ) (xs : List ℕ) (k : ℕ) → k < length (x ∷ xs) → get_or (x ∷ xs) k block ≡ block
-    → (x ≡ block → ⊥)
-    → ((i : ℕ) → i < length xs → get_or xs i block ≡ block → length (without block xs) + 1 ≡ length xs)
-    → length (x ∷ without block xs) + 1 ≡ length (x ∷ xs)
-length-later block x xs zero h there other later = absurd (other there)
-length-later block x xs (suc k) h there other later =
-    let rest : length (without block xs) + 1 ≡ length xs = later k (omega arith) there in omega (arith, rest)
-
-length-without :
-    (block : ℕ) (blocks : List ℕ) (k : ℕ) → k < length blocks → get_or blocks k block ≡ block
-    → length (without block blocks) + 1 ≡ length blocks
-length-without block [] k h there = absurd (omega arith)
-length-without block (x ∷ xs) k h there =
-    elim (cases_eq x block) [
-      | inl same ↦ rw (eq-eqb x block same) (omega arith)
-      | inr other ↦
-          rw (ne_eqb x block other) (length-later block x xs k h there other (length-without block xs))
-    ]
-
--- a set that the block was in
-pub touched_where_hit :
-    (ways block : ℕ) (blocks : List ℕ) → length blocks ≤ ways → Contains blocks block
-    → block ∷ without block blocks ≡ touched_set ways block blocks
-touched_where_hit ways block blocks cut at =
-    let len : length (without block blocks) + 1 ≡ length blocks = length-without block blocks at.0 at.1 at.2 in
-    sym (take_all ways (block ∷ without block blocks) (omega (arith, len)))
 
 -- a set that the block was not in: what was pushed off its end is kept where there is room
 pub touched_where_kept :

@@ -1,4 +1,3 @@
 pub mod Endings
 pub mod Folds
 pub mod Fronts
-pub mod Sounds

@@ -2,7 +2,7 @@
 use Rattle.std.proofs.Common.{◌≡◌, ◌≢◌, ℕ, zero, suc, ◌+◌, ◌-◌, ◌<◌, ◌≤◌, not, eqb, List, [], ◌∷◌, ◌++◌, length, map, take, get_or, set, replicate, refl, sym, ap, ◌∙◌, inl, inr, arith, eq-eqb, eqb-true, ◌^◌, ◌*◌, ⊎_elim, mod-lt, pow_pos, pow-add, div-lt_iff_lt-mul}
 use Rattle.std.specs.List.{range_with_len}
 use Rattle.std.proofs.lemmas.Bool.{cases_eq, ne_eqb}
-use Rattle.std.proofs.lemmas.List.{map-append, length_push, length-map, length-take, get_or-set_same, get_or-set_other, length-set, length-replicate, get_or-replicate, get_or_default}
+use Rattle.std.proofs.lemmas.List.{map-append, length_push, length-map, length-take, get_or-set_same, get_or-set_other, length-set, get_or_default}
 use Rattle.std.proofs.lemmas.List.FromFn.{get_or-map-range_with_len}
 use Rattle.lru_plain.specs.Shape.{Shape, IsShape, sets_of, block_of, home_of}
 use Rattle.recency_record.specs.declared.entry.Entry.{Entry}
@@ -195,14 +195,6 @@ referred_keeps r addr below old = record {
 
     entry : IsEntry r.shape (r.time + 1) home e
     entry = record { block = block_below r.shape addr old.shape below; home = refl; time = omega arith }
-
-pub recency_none : (g : Shape) → IsShape g → IsRecency (record { shape = g; time = 0; sets = replicate (sets_of g) [] })
-recency_none g shape = record {
-  shape = shape;
-  count = length-replicate {A = List Entry} (sets_of g) [];
-  sets = λ set h. rw (get_or-replicate {A = List Entry} (sets_of g) set [] [] h)
-      (record { cut = omega arith; ranked = tt; entries = tt });
-}
 
 -- the sets after one more reference, with the parts that the code computes
 pub refer_keeps :

@@ -76,11 +76,6 @@ part_at (s ∷ t ∷ rest) row (suc k) h =
     let step : suc k + 1 ≡ suc (k + 1) = omega arith in
     rw step (part_at (t ∷ rest) row k (omega arith))
 
-pub parts_length : (starts : List ℕ) (row : List Entry) → length (parts starts row) ≡ length starts - 1
-parts_length [] row = refl
-parts_length (s ∷ []) row = refl
-parts_length (s ∷ t ∷ rest) row = let e : length (parts (t ∷ rest) row) ≡ length (t ∷ rest) - 1 = parts_length (t ∷ rest) row in omega (arith, e)
-
 pub dealt_length : (counts : List ℕ) (es : List Entry) → length (dealt counts es) ≡ length counts
 dealt_length [] es = refl
 dealt_length (c ∷ cs) es = ap suc (dealt_length cs (drop c es))

@@ -5,11 +5,6 @@ use Rattle.std.proofs.Math.Seq.{take-add}
 use Rattle.std.specs.Io.KnownBytes.{prepend_known, append_known}
 use Rattle.smarts_io.specs.Bytes.{Gives, Takes, IsAtEnd, cut_past}
 
--- nothing given yet
-pub gives_none : (rest : Option (List ℕ)) → Gives rest [] rest
-gives_none None = refl
-gives_none (Some bytes) = refl
-
 -- one piece, and then another
 pub gives_more :
     (old mid new : Option (List ℕ)) (front piece : List ℕ)

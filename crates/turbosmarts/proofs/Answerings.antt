@@ -101,21 +101,3 @@ sampled_is config design test input image start outcome exit count report loads 
     let told : report ≡ report_on design test exit.length count (unit_answers config (start_of image) design count) =
     rw (← starts) reports in
     rw (loads, ran, counts, told) refl
-
--- and those of a run
-pub ran_is :
-    (budget : ℕ) (input : List ℕ) (image : ImageValue) (before after : Machine) (outcome : Outcome) (exit : Exit)
-    → image_or_fault (image_of input) ≡ Ok image
-    → before ≡ started image true
-    → outcome ≡ outcome_of before.state budget
-    → after ≡ machine_after before budget
-    → exit_or_fault budget outcome ≡ Ok exit
-    → run_of budget input ≡ Ok (record { bytes = after.output; lines = exit_line exit.code exit.length })
-unfolding run_of
-ran_is budget input image before after outcome exit loads starts ends moves exits =
-    let start : before.state ≡ start_of image = ap (λ (m : Machine). m.state) starts in
-    let ran : exit_or_fault budget (outcome_of (start_of image) budget) ≡ Ok exit =
-    rw (← start, ← ends) exits in
-    let output : after.output ≡ output_after (start_of image) budget =
-    ap (λ (m : Machine). m.output) (moves ∙ ap (λ (m : Machine). machine_after m budget) starts) in
-    rw (loads, ran, output) refl

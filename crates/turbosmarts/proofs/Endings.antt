@@ -66,39 +66,6 @@ ends_refused words fault source sink is same unread unread_count =
       told_done = λ e. cc;
     }
 
--- what holds of the bytes that were taken in holds of those that the source tells
-told_holds :
-    (P : List ℕ → Type 0) (told : Option (List ℕ)) (bytes : List ℕ)
-    → IfSome told (λ input. bytes ≡ taken_in input) → P bytes → IfSome told (λ input. P (taken_in input))
-told_holds P None bytes is holds = tt
-told_holds P (Some input) bytes is holds = subst P is holds
-
--- a call that took in the input and gave the answer to it
-pub ends_read :
-    (expected : List ℕ → Answer) (reads : Type 0) (source sink : Change) (bytes : List ℕ) (result : Status) (told : List ℕ)
-    → reads
-    → IfSome source.before (λ input. bytes ≡ taken_in input) → Gives source.before bytes source.after
-    → GivesAnswer (expected bytes) sink result told
-    → EndsAs expected reads source sink result told
-ends_read expected reads source sink bytes result told asks all given gives = record {
-  status = λ d. told_holds (λ b. result ≡ (expected b).status) source.before bytes all (gives.status d);
-  written = λ d. told_holds (λ b. Takes sink.before (expected b).bytes sink.after) source.before bytes all (gives.written d);
-  read_reads = λ e. asks;
-  read_cause = λ e. absurd (gives.no_read e);
-  read_nothing = λ e. absurd (gives.no_read e);
-  write_cause = gives.write_cause;
-  write_done = λ taken e. told_holds (λ b. (expected b).status ≡ statuses.Done) source.before bytes all (gives.write_done taken e);
-  write_front = λ taken e. told_holds (λ b. Takes sink.before (take taken (expected b).bytes) sink.after) source.before bytes all
-      (gives.write_front taken e);
-  write_short = λ taken e. told_holds (λ b. taken < length (expected b).bytes) source.before bytes all (gives.write_short taken e);
-  no_memory = gives.no_memory;
-  all_read = λ asked d. told_holds (λ b. Gives source.before b source.after) source.before bytes all given;
-  unread = λ idle. absurd (idle asks);
-  unread_count = λ idle. absurd (idle asks);
-  told_fault = gives.told_fault;
-  told_done = λ e. told_holds (λ b. told ≡ (expected b).lines) source.before bytes all (gives.told_done e);
-}
-
 -- a call whose answer depends on no input
 pub ends_unread :
     (expected : List ℕ → Answer) (reads : Type 0) (source sink : Change) (given : Answer) (result : Status) (told : List ℕ)

@@ -177,11 +177,3 @@ found_back items from i within =
 some_copied : {X : Type 0} (found : Option (Bor X)) (x : X) → option_copied found ≡ Some x → IsSome found
 some_copied None x is = cc
 some_copied (Some r) x is = refl
-
--- it is there
-pub is_found :
-    {X : Type 0} (items : List X) (from i : ℕ) (found : Option (Bor X)) → i < length (drop from items)
-    → option_copied found ≡ from_back items (length items - from - i - 1) → IsSome found
-is_found items from i found within is =
-    let some = slice_get-some (drop from items) i within in
-    some_copied found some.0 (is ∙ found_back items from i within ∙ some.1)
