@@ -253,59 +253,61 @@ fn annotate_all(
     }
 }
 
+/// Instructions in turn: class, pc, data address, stall and latency. Behind each row: what its
+/// references find, in the order of TLB, first and second cache, and the lines of L1I, L1D and L2 after
+/// it.
+const COMBINATIONS: [(Class, u32, Option<u32>, u32, u32); 30] = [
+    // Nothing is there: 30 + 100.
+    (Class::Alu, 0x1000, None, 130, 1), // 100; ; 100
+    (Class::Alu, 0x1004, None, 0, 1), // the same
+    (Class::Alu, 0x1010, None, 100, 1), // 101 100; ; 101 100
+    // The data takes the place of line 100 in L2. L1I still has it: a stall of 0, though L2 misses.
+    (Class::Load, 0x1014, Some(0x9000), 0, 132), // 101 100; 900; 900 101
+    (Class::Alu, 0x1000, None, 0, 1), // 100 101; 900; 100 900
+    (Class::Load, 0x1004, Some(0x9004), 0, 2), // 100 101; 900; 900 100
+    // A line that was loaded as data is in L2 when it is fetched: 10.
+    (Class::Load, 0x1008, Some(0x1020), 0, 132), // 100 101; 102 900; 102 100
+    (Class::Alu, 0x1020, None, 10, 1), // 102 100; 102 900; 102 100
+    // Another page, and back: both lines are in L1I, but the TLB has one page.
+    (Class::Alu, 0x2000, None, 130, 1), // 200 102; 102 900; 200 102
+    (Class::Alu, 0x1020, None, 30, 1), // 102 200; 102 900; 102 200
+    // A page and a line that were data before: 30 + 10.
+    (Class::Load, 0x1024, Some(0x3000), 0, 132), // 102 200; 300 102; 300 102
+    (Class::Alu, 0x3000, None, 40, 1), // 300 102; 300 102; 300 102
+    // Back to the page before, whose line is in L1I alone: 30.
+    (Class::Load, 0x3004, Some(0x9000), 0, 132), // 300 102; 900 300; 900 300
+    (Class::Alu, 0x1020, None, 30, 1), // 102 300; 900 300; 102 900
+    // Data: all hit, then another line of the page, then the line before, which L2 has lost.
+    (Class::Load, 0x1024, Some(0x9004), 0, 2), // 102 300; 900 300; 900 102
+    (Class::Load, 0x1024, Some(0x9010), 0, 102), // 102 300; 901 900; 901 102
+    (Class::Load, 0x1028, Some(0x9000), 0, 2), // 102 300; 900 901; 900 102
+    // Another page, and back: the line is in L1D alone.
+    (Class::Load, 0x1028, Some(0x3000), 0, 132), // 102 300; 300 900; 300 102
+    (Class::Load, 0x1028, Some(0x9000), 0, 32), // 102 300; 900 300; 900 102
+    // A store takes 1 cycle, and touches all three: the load behind it hits.
+    (Class::Store, 0x102C, Some(0x3000), 0, 1), // 102 300; 300 900; 300 102
+    (Class::Load, 0x102C, Some(0x3004), 0, 2), // the same
+    // Data in the line of the load itself, which is fetched first: L2 has it. 2 + 30 + 10.
+    (Class::Load, 0x1020, Some(0x1028), 0, 42), // 102 300; 102 300; 102 300
+    (Class::Load, 0x1024, Some(0x3008), 0, 32), // 102 300; 300 102; 300 102
+    // The same in another line, of a page that the TLB of data has: 2 + 10.
+    (Class::Load, 0x3010, Some(0x3014), 130, 12), // 301 102; 301 300; 301 300
+    (Class::Store, 0x3018, Some(0x9000), 0, 1), // 301 102; 900 301; 900 301
+    (Class::Load, 0x301C, Some(0x900B), 0, 2), // the same
+    // The others wait for no data.
+    (Class::Mul, 0x3010, None, 0, 3),
+    (Class::Div, 0x3014, None, 0, 20),
+    (Class::Control, 0x3018, None, 0, 1),
+    (Class::Ecall, 0x301C, None, 0, 1), // 301 102; 900 301; 301 900
+];
+
 /// The stall or the delay of a load is the sum of 30 where the TLB misses, and of 10 or 100 where
 /// the first cache misses and the second hits or misses. A load that hits takes 2.
 #[test]
 fn marks_every_combination(rt: HostRuntime) -> Result<(), Fail> {
     let config = tiny()?;
     let mut state = State::new(rt.alloc(), &config)?;
-    // Behind each row: what its references find, in the order of TLB, first and second cache, and
-    // the lines of L1I, L1D and L2 after it.
-    let rows = [
-        // Nothing is there: 30 + 100.
-        (Class::Alu, 0x1000, None, 130, 1), // 100; ; 100
-        (Class::Alu, 0x1004, None, 0, 1), // the same
-        (Class::Alu, 0x1010, None, 100, 1), // 101 100; ; 101 100
-        // The data takes the place of line 100 in L2. L1I still has it: a stall of 0, though L2 misses.
-        (Class::Load, 0x1014, Some(0x9000), 0, 132), // 101 100; 900; 900 101
-        (Class::Alu, 0x1000, None, 0, 1), // 100 101; 900; 100 900
-        (Class::Load, 0x1004, Some(0x9004), 0, 2), // 100 101; 900; 900 100
-        // A line that was loaded as data is in L2 when it is fetched: 10.
-        (Class::Load, 0x1008, Some(0x1020), 0, 132), // 100 101; 102 900; 102 100
-        (Class::Alu, 0x1020, None, 10, 1), // 102 100; 102 900; 102 100
-        // Another page, and back: both lines are in L1I, but the TLB has one page.
-        (Class::Alu, 0x2000, None, 130, 1), // 200 102; 102 900; 200 102
-        (Class::Alu, 0x1020, None, 30, 1), // 102 200; 102 900; 102 200
-        // A page and a line that were data before: 30 + 10.
-        (Class::Load, 0x1024, Some(0x3000), 0, 132), // 102 200; 300 102; 300 102
-        (Class::Alu, 0x3000, None, 40, 1), // 300 102; 300 102; 300 102
-        // Back to the page before, whose line is in L1I alone: 30.
-        (Class::Load, 0x3004, Some(0x9000), 0, 132), // 300 102; 900 300; 900 300
-        (Class::Alu, 0x1020, None, 30, 1), // 102 300; 900 300; 102 900
-        // Data: all hit, then another line of the page, then the line before, which L2 has lost.
-        (Class::Load, 0x1024, Some(0x9004), 0, 2), // 102 300; 900 300; 900 102
-        (Class::Load, 0x1024, Some(0x9010), 0, 102), // 102 300; 901 900; 901 102
-        (Class::Load, 0x1028, Some(0x9000), 0, 2), // 102 300; 900 901; 900 102
-        // Another page, and back: the line is in L1D alone.
-        (Class::Load, 0x1028, Some(0x3000), 0, 132), // 102 300; 300 900; 300 102
-        (Class::Load, 0x1028, Some(0x9000), 0, 32), // 102 300; 900 300; 900 102
-        // A store takes 1 cycle, and touches all three: the load behind it hits.
-        (Class::Store, 0x102C, Some(0x3000), 0, 1), // 102 300; 300 900; 300 102
-        (Class::Load, 0x102C, Some(0x3004), 0, 2), // the same
-        // Data in the line of the load itself, which is fetched first: L2 has it. 2 + 30 + 10.
-        (Class::Load, 0x1020, Some(0x1028), 0, 42), // 102 300; 102 300; 102 300
-        (Class::Load, 0x1024, Some(0x3008), 0, 32), // 102 300; 300 102; 300 102
-        // The same in another line, of a page that the TLB of data has: 2 + 10.
-        (Class::Load, 0x3010, Some(0x3014), 130, 12), // 301 102; 301 300; 301 300
-        (Class::Store, 0x3018, Some(0x9000), 0, 1), // 301 102; 900 301; 900 301
-        (Class::Load, 0x301C, Some(0x900B), 0, 2), // the same
-        // The others wait for no data.
-        (Class::Mul, 0x3010, None, 0, 3),
-        (Class::Div, 0x3014, None, 0, 20),
-        (Class::Control, 0x3018, None, 0, 1),
-        (Class::Ecall, 0x301C, None, 0, 1), // 301 102; 900 301; 301 900
-    ];
-    annotate_all(&rt, &mut state, &config, rows.as_slice());
+    annotate_all(&rt, &mut state, &config, COMBINATIONS.as_slice());
     let caches = state.caches();
     assert!(rt; holds(&caches.l1i, [0x301, 0x102].as_slice()));
     assert!(rt; holds(&caches.l1d, [0x900, 0x301].as_slice()));

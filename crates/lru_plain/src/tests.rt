@@ -54,79 +54,80 @@ fn knows_the_geometries(rt: HostRuntime) {
     }
 }
 
+/// The shape, the touched addresses with their hits, a set and its blocks after them.
+const TOUCHES: [((u8, u8, u8), &[(u32, bool)], u32, &[u32]); 7] = [
+    (
+        (6, 0, 2),
+        &[
+            (0, false),
+            (64, false),
+            (0, true),
+            (128, false),
+            (64, false),
+        ],
+        0,
+        &[1, 2],
+    ),
+    (
+        (6, 0, 2),
+        &[(0, false), (63, true), (64, false), (127, true), (1, true)],
+        0,
+        &[0, 1],
+    ),
+    (
+        (4, 0, 1),
+        &[(0, false), (15, true), (16, false), (0, false)],
+        0,
+        &[0],
+    ),
+    (
+        (4, 0, 1),
+        &[
+            (0xFFFF_FFFF, false),
+            (0xFFFF_FFF0, true),
+            (0xFFFF_FFEF, false),
+        ],
+        0,
+        &[0x0FFF_FFFE],
+    ),
+    (
+        (4, 12, 16),
+        &[
+            (0xFFFF_FFF0, false),
+            (0xFFFE_FFF0, false),
+            (0xFFFF_FFFF, true),
+        ],
+        0xFFF,
+        &[0x0FFF_FFFF, 0x0FFF_EFFF],
+    ),
+    (
+        (12, 12, 16),
+        &[
+            (0xFFFF_F000, false),
+            (0xFFFF_FFFF, true),
+            (0xFFFF_EFFF, false),
+        ],
+        0xFFF,
+        &[0xF_FFFF],
+    ),
+    (
+        (8, 1, 3),
+        &[
+            (0, false),
+            (512, false),
+            (256, false),
+            (1024, false),
+            (0, true),
+            (1536, false),
+        ],
+        0,
+        &[6, 0, 4],
+    ),
+];
+
 #[test]
 fn keeps_the_latest_blocks(rt: HostRuntime) -> Result<(), Fail> {
-    // The shape, the touched addresses with their hits, a set and its blocks after them.
-    let cases: [((u8, u8, u8), &[(u32, bool)], u32, &[u32]); 7] = [
-        (
-            (6, 0, 2),
-            &[
-                (0, false),
-                (64, false),
-                (0, true),
-                (128, false),
-                (64, false),
-            ],
-            0,
-            &[1, 2],
-        ),
-        (
-            (6, 0, 2),
-            &[(0, false), (63, true), (64, false), (127, true), (1, true)],
-            0,
-            &[0, 1],
-        ),
-        (
-            (4, 0, 1),
-            &[(0, false), (15, true), (16, false), (0, false)],
-            0,
-            &[0],
-        ),
-        (
-            (4, 0, 1),
-            &[
-                (0xFFFF_FFFF, false),
-                (0xFFFF_FFF0, true),
-                (0xFFFF_FFEF, false),
-            ],
-            0,
-            &[0x0FFF_FFFE],
-        ),
-        (
-            (4, 12, 16),
-            &[
-                (0xFFFF_FFF0, false),
-                (0xFFFE_FFF0, false),
-                (0xFFFF_FFFF, true),
-            ],
-            0xFFF,
-            &[0x0FFF_FFFF, 0x0FFF_EFFF],
-        ),
-        (
-            (12, 12, 16),
-            &[
-                (0xFFFF_F000, false),
-                (0xFFFF_FFFF, true),
-                (0xFFFF_EFFF, false),
-            ],
-            0xFFF,
-            &[0xF_FFFF],
-        ),
-        (
-            (8, 1, 3),
-            &[
-                (0, false),
-                (512, false),
-                (256, false),
-                (1024, false),
-                (0, true),
-                (1536, false),
-            ],
-            0,
-            &[6, 0, 4],
-        ),
-    ];
-    for ((line_log, sets_log, ways), touches, number, blocks) in cases {
+    for ((line_log, sets_log, ways), touches, number, blocks) in TOUCHES {
         let mut cache = cache(rt.alloc(), line_log, sets_log, ways)?;
         for (addr, hit) in touches {
             assert_eq!(rt; cache.touch(*addr), *hit, "at {addr}");

@@ -86,56 +86,57 @@ fn reloaded(alloc: Global, image: &PredictorImage) -> Result<Predictor, Fail> {
 }
 
 /// Scheme, events, and then the counters and the history.
+const BRANCHES: [(Scheme, &[(u32, Flow, u32, bool)], &[u8], u32); 3] = [
+    // A counter stops at 0 and at 3.
+    (
+        Scheme::Bimodal,
+        &[
+            (0x1000, NOT_TAKEN, 0x1004, false),
+            (0x1000, NOT_TAKEN, 0x1004, false),
+            (0x1000, TAKEN, 0x1100, true),
+            (0x1000, TAKEN, 0x1100, true),
+            (0x1000, TAKEN, 0x1100, false),
+            (0x1000, TAKEN, 0x1100, false),
+            (0x1000, NOT_TAKEN, 0x1004, true),
+            (0x1000, NOT_TAKEN, 0x1004, true),
+            (0x1000, NOT_TAKEN, 0x1004, false),
+        ],
+        &[0, 1, 1, 1, 1, 1, 1, 1, 1, 1, 1, 1, 1, 1, 1, 1],
+        0,
+    ),
+    // Branches 64 bytes apart share a counter, and where a branch goes doesn't matter.
+    (
+        Scheme::Bimodal,
+        &[
+            (0x1004, TAKEN, 0x2000, true),
+            (0x1044, TAKEN, 0x3000, false),
+            (0xFFFF_FFFC, TAKEN, 0, true),
+        ],
+        &[1, 3, 1, 1, 1, 1, 1, 1, 1, 1, 1, 1, 1, 1, 1, 2],
+        0,
+    ),
+    // The history is used as it was before the branch, and has four outcomes.
+    (
+        Scheme::Gshare,
+        &[
+            (0x1000, TAKEN, 0x1100, true),
+            (0x1000, TAKEN, 0x1100, true),
+            (0x1000, TAKEN, 0x1100, true),
+            (0x1000, TAKEN, 0x1100, true),
+            (0x1000, TAKEN, 0x1100, true),
+            (0x1000, TAKEN, 0x1100, false),
+            (0x1000, NOT_TAKEN, 0x1004, true),
+            (0x1000, NOT_TAKEN, 0x1004, false),
+            (0x1004, TAKEN, 0x1100, true),
+        ],
+        &[2, 2, 1, 2, 1, 1, 1, 2, 1, 1, 1, 1, 1, 2, 0, 2],
+        9,
+    ),
+];
+
 #[test]
 fn branches(rt: HostRuntime) -> Result<(), Fail> {
-    let cases: [(Scheme, &[(u32, Flow, u32, bool)], &[u8], u32); 3] = [
-        // A counter stops at 0 and at 3.
-        (
-            Scheme::Bimodal,
-            &[
-                (0x1000, NOT_TAKEN, 0x1004, false),
-                (0x1000, NOT_TAKEN, 0x1004, false),
-                (0x1000, TAKEN, 0x1100, true),
-                (0x1000, TAKEN, 0x1100, true),
-                (0x1000, TAKEN, 0x1100, false),
-                (0x1000, TAKEN, 0x1100, false),
-                (0x1000, NOT_TAKEN, 0x1004, true),
-                (0x1000, NOT_TAKEN, 0x1004, true),
-                (0x1000, NOT_TAKEN, 0x1004, false),
-            ],
-            &[0, 1, 1, 1, 1, 1, 1, 1, 1, 1, 1, 1, 1, 1, 1, 1],
-            0,
-        ),
-        // Branches 64 bytes apart share a counter, and where a branch goes doesn't matter.
-        (
-            Scheme::Bimodal,
-            &[
-                (0x1004, TAKEN, 0x2000, true),
-                (0x1044, TAKEN, 0x3000, false),
-                (0xFFFF_FFFC, TAKEN, 0, true),
-            ],
-            &[1, 3, 1, 1, 1, 1, 1, 1, 1, 1, 1, 1, 1, 1, 1, 2],
-            0,
-        ),
-        // The history is used as it was before the branch, and has four outcomes.
-        (
-            Scheme::Gshare,
-            &[
-                (0x1000, TAKEN, 0x1100, true),
-                (0x1000, TAKEN, 0x1100, true),
-                (0x1000, TAKEN, 0x1100, true),
-                (0x1000, TAKEN, 0x1100, true),
-                (0x1000, TAKEN, 0x1100, true),
-                (0x1000, TAKEN, 0x1100, false),
-                (0x1000, NOT_TAKEN, 0x1004, true),
-                (0x1000, NOT_TAKEN, 0x1004, false),
-                (0x1004, TAKEN, 0x1100, true),
-            ],
-            &[2, 2, 1, 2, 1, 1, 1, 2, 1, 1, 1, 1, 1, 2, 0, 2],
-            9,
-        ),
-    ];
-    for (scheme, events, counters, history) in cases {
+    for (scheme, events, counters, history) in BRANCHES {
         let mut predictor = Predictor::new(rt.alloc(), small(scheme, 0))?;
         observe_all(&rt, &mut predictor, events);
         let image = predictor.image()?;
@@ -146,57 +147,58 @@ fn branches(rt: HostRuntime) -> Result<(), Fail> {
 }
 
 /// Depth, events, and then the stack.
+const RETURNS: [(u8, &[(u32, Flow, u32, bool)], &[u32]); 4] = [
+    // Nothing is on an empty stack, and a full one loses its bottom.
+    (
+        2,
+        &[
+            (0x2000, RETURN, 0x1004, true),
+            (0x1000, CALL, 0x2000, false),
+            (0x2000, Flow::Jal { push: false }, 0x2010, false),
+            (0x2010, RETURN, 0x1004, false),
+            (0x1000, CALL, 0x2000, false),
+            (0x1010, CALL, 0x2000, false),
+            (0x1020, CALL, 0x2000, false),
+            (0x2000, RETURN, 0x1020, true),
+            (0x2000, RETURN, 0x1014, false),
+            (0x2000, RETURN, 0x1004, true),
+        ],
+        &[],
+    ),
+    // The address behind the last instruction is 0.
+    (
+        2,
+        &[
+            (0xFFFF_FFFC, CALL, 0x2000, false),
+            (0x1000, CALL, 0x2000, false),
+        ],
+        &[0, 0x1004],
+    ),
+    // The pop comes before the push.
+    (
+        1,
+        &[
+            (0x1000, CALL, 0x2000, false),
+            (0x2000, SWAP, 0x1004, false),
+            (0x1004, SWAP, 0x2000, true),
+        ],
+        &[0x1008],
+    ),
+    // A stack without room stays empty.
+    (
+        0,
+        &[
+            (0x1000, CALL, 0x2000, false),
+            (0x2000, RETURN, 0x1004, true),
+            (0x2000, SWAP, 0x1004, true),
+        ],
+        &[],
+    ),
+];
+
 #[test]
 fn returns(rt: HostRuntime) -> Result<(), Fail> {
-    let cases: [(u8, &[(u32, Flow, u32, bool)], &[u32]); 4] = [
-        // Nothing is on an empty stack, and a full one loses its bottom.
-        (
-            2,
-            &[
-                (0x2000, RETURN, 0x1004, true),
-                (0x1000, CALL, 0x2000, false),
-                (0x2000, Flow::Jal { push: false }, 0x2010, false),
-                (0x2010, RETURN, 0x1004, false),
-                (0x1000, CALL, 0x2000, false),
-                (0x1010, CALL, 0x2000, false),
-                (0x1020, CALL, 0x2000, false),
-                (0x2000, RETURN, 0x1020, true),
-                (0x2000, RETURN, 0x1014, false),
-                (0x2000, RETURN, 0x1004, true),
-            ],
-            &[],
-        ),
-        // The address behind the last instruction is 0.
-        (
-            2,
-            &[
-                (0xFFFF_FFFC, CALL, 0x2000, false),
-                (0x1000, CALL, 0x2000, false),
-            ],
-            &[0, 0x1004],
-        ),
-        // The pop comes before the push.
-        (
-            1,
-            &[
-                (0x1000, CALL, 0x2000, false),
-                (0x2000, SWAP, 0x1004, false),
-                (0x1004, SWAP, 0x2000, true),
-            ],
-            &[0x1008],
-        ),
-        // A stack without room stays empty.
-        (
-            0,
-            &[
-                (0x1000, CALL, 0x2000, false),
-                (0x2000, RETURN, 0x1004, true),
-                (0x2000, SWAP, 0x1004, true),
-            ],
-            &[],
-        ),
-    ];
-    for (depth, events, stack) in cases {
+    for (depth, events, stack) in RETURNS {
         let mut predictor = Predictor::new(rt.alloc(), small(Scheme::Gshare, depth))?;
         observe_all(&rt, &mut predictor, events);
         assert_eq!(rt; predictor.image()?.stack(), stack);

@@ -92,74 +92,91 @@ fn judged(
     }
 }
 
+/// The time, the count of entries in each of four sets of two ways, the entries, and the fault.
+const SETS: [(u64, [u8; 4], &[Entry], Option<RecordFault>); 11] = [
+    (5, [0, 0, 0, 0], &[], None),
+    (
+        5,
+        [2, 2, 0, 0],
+        &[
+            Entry { block: 0, time: 4 },
+            Entry { block: 4, time: 1 },
+            Entry { block: 5, time: 3 },
+            Entry { block: 1, time: 2 },
+        ],
+        None,
+    ),
+    (
+        5,
+        [3, 0, 0, 0],
+        &[
+            Entry { block: 0, time: 4 },
+            Entry { block: 0, time: 4 },
+            Entry { block: 8, time: 1 },
+        ],
+        Some(RecordFault::TooMany { set: 0, place: 0 }),
+    ),
+    (
+        5,
+        [0, 1, 0, 0],
+        &[Entry { block: 4, time: 4 }],
+        Some(RecordFault::WrongSet { set: 1, place: 0 }),
+    ),
+    (
+        5,
+        [1, 0, 0, 0],
+        &[Entry {
+            block: 1 << 26,
+            time: 4,
+        }],
+        Some(RecordFault::WrongSet { set: 0, place: 0 }),
+    ),
+    (
+        5,
+        [0, 2, 0, 0],
+        &[Entry { block: 4, time: 4 }, Entry { block: 4, time: 4 }],
+        Some(RecordFault::WrongSet { set: 1, place: 0 }),
+    ),
+    (
+        5,
+        [2, 0, 0, 0],
+        &[Entry { block: 4, time: 4 }, Entry { block: 4, time: 5 }],
+        Some(RecordFault::Repeated { set: 0, place: 1 }),
+    ),
+    (
+        4,
+        [0, 0, 0, 1],
+        &[Entry { block: 7, time: 4 }],
+        Some(RecordFault::TimeRange { set: 3, place: 0 }),
+    ),
+    (
+        5,
+        [2, 0, 0, 0],
+        &[Entry { block: 4, time: 3 }, Entry { block: 0, time: 3 }],
+        Some(RecordFault::NotDescending { set: 0, place: 1 }),
+    ),
+    (
+        5,
+        [2, 0, 0, 0],
+        &[Entry { block: 4, time: 3 }, Entry { block: 0, time: 5 }],
+        Some(RecordFault::TimeRange { set: 0, place: 1 }),
+    ),
+    (
+        5,
+        [0, 1, 2, 0],
+        &[
+            Entry { block: 1, time: 4 },
+            Entry { block: 2, time: 1 },
+            Entry { block: 6, time: 2 },
+        ],
+        Some(RecordFault::NotDescending { set: 2, place: 1 }),
+    ),
+];
+
 #[test]
 fn judges_sets(rt: HostRuntime) -> Result<(), Fail> {
     let geometry = shape(6, 2, 2)?;
-    let high = 1 << 26;
-    let cases: [(u64, [u8; 4], &[Entry], Option<RecordFault>); 11] = [
-        (5, [0, 0, 0, 0], &[], None),
-        (
-            5,
-            [2, 2, 0, 0],
-            &[entry(0, 4), entry(4, 1), entry(5, 3), entry(1, 2)],
-            None,
-        ),
-        (
-            5,
-            [3, 0, 0, 0],
-            &[entry(0, 4), entry(0, 4), entry(8, 1)],
-            Some(RecordFault::TooMany { set: 0, place: 0 }),
-        ),
-        (
-            5,
-            [0, 1, 0, 0],
-            &[entry(4, 4)],
-            Some(RecordFault::WrongSet { set: 1, place: 0 }),
-        ),
-        (
-            5,
-            [1, 0, 0, 0],
-            &[entry(high, 4)],
-            Some(RecordFault::WrongSet { set: 0, place: 0 }),
-        ),
-        (
-            5,
-            [0, 2, 0, 0],
-            &[entry(4, 4), entry(4, 4)],
-            Some(RecordFault::WrongSet { set: 1, place: 0 }),
-        ),
-        (
-            5,
-            [2, 0, 0, 0],
-            &[entry(4, 4), entry(4, 5)],
-            Some(RecordFault::Repeated { set: 0, place: 1 }),
-        ),
-        (
-            4,
-            [0, 0, 0, 1],
-            &[entry(7, 4)],
-            Some(RecordFault::TimeRange { set: 3, place: 0 }),
-        ),
-        (
-            5,
-            [2, 0, 0, 0],
-            &[entry(4, 3), entry(0, 3)],
-            Some(RecordFault::NotDescending { set: 0, place: 1 }),
-        ),
-        (
-            5,
-            [2, 0, 0, 0],
-            &[entry(4, 3), entry(0, 5)],
-            Some(RecordFault::TimeRange { set: 0, place: 1 }),
-        ),
-        (
-            5,
-            [0, 1, 2, 0],
-            &[entry(1, 4), entry(2, 1), entry(6, 2)],
-            Some(RecordFault::NotDescending { set: 2, place: 1 }),
-        ),
-    ];
-    for (time, counts, entries, fault) in cases {
+    for (time, counts, entries, fault) in SETS {
         let answer = judged(rt.alloc(), geometry, time, counts.as_slice(), entries)?;
         assert_eq!(rt; answer, fault);
     }

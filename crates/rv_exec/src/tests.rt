@@ -118,31 +118,32 @@ fn changed_instructions(rt: HostRuntime) -> Result<(), Fail> {
     Ok(())
 }
 
-/// A program that divides -2^31 by -1 and by 0, stores the four results below address 0x100, writes
-/// the 16 bytes and exits.
+/// Divides -2^31 by -1 and by 0, stores the four results below address 0x100, writes the 16 bytes and
+/// exits.
+const DIVIDE: [u32; 18] = [
+    0x8000_02b7,
+    0xfff0_0313,
+    0x0262_c3b3,
+    0x0262_ee33,
+    0x0202_ceb3,
+    0x0202_ef33,
+    0xfe71_2823,
+    0xffc1_2a23,
+    0xffd1_2c23,
+    0xffe1_2e23,
+    0x0010_0513,
+    0xff01_0593,
+    0x0100_0613,
+    0x0400_0893,
+    0x0000_0073,
+    0x0000_0513,
+    0x05d0_0893,
+    0x0000_0073,
+];
+
 #[test]
 fn program_over_whole_memory(rt: HostRuntime) -> Result<(), Fail> {
-    let code = [
-        0x8000_02b7,
-        0xfff0_0313,
-        0x0262_c3b3,
-        0x0262_ee33,
-        0x0202_ceb3,
-        0x0202_ef33,
-        0xfe71_2823,
-        0xffc1_2a23,
-        0xffd1_2c23,
-        0xffe1_2e23,
-        0x0010_0513,
-        0xff01_0593,
-        0x0100_0613,
-        0x0400_0893,
-        0x0000_0073,
-        0x0000_0513,
-        0x05d0_0893,
-        0x0000_0073,
-    ];
-    let mut words = code.to_vec(rt.alloc())?;
+    let mut words = DIVIDE.to_vec(rt.alloc())?;
     words.resize(64, 0)?;
     let mut memory = Flat {
         words,

@@ -88,106 +88,157 @@ fn run_of(
     Some((outcome, machine.output().to_vec(alloc).ok()?))
 }
 
+/// Makes call 80, which there is not, writes its answer, and exits with code 0.
+const CALL_80: [u32; 11] = [
+    0x0500_0893,
+    0x0000_0073,
+    0xfea1_2e23,
+    0x0010_0513,
+    0xffc1_0593,
+    0x0040_0613,
+    0x0400_0893,
+    0x0000_0073,
+    0x0000_0513,
+    0x05d0_0893,
+    0x0000_0073,
+];
+
+/// Writes its bytes 0 and 1 to descriptor 1, then its bytes 1 and 2 to descriptor 2.
+const WRITE_TWICE: [u32; 12] = [
+    0x0001_05b7,
+    0x0545_8593,
+    0x0010_0513,
+    0x0020_0613,
+    0x0400_0893,
+    0x0000_0073,
+    0x0020_0513,
+    0x0015_8593,
+    0x0000_0073,
+    0x0000_0513,
+    0x05d0_0893,
+    0x0000_0073,
+];
+
+/// After seven instructions that do nothing, a load of a word at address 1.
+const BAD_LOAD: [u32; 8] = [
+    0x0000_0013,
+    0x0000_0013,
+    0x0000_0013,
+    0x0000_0013,
+    0x0000_0013,
+    0x0000_0013,
+    0x0000_0013,
+    0x0010_2303,
+];
+
+/// Exits with code -1 by call 94.
+const EXIT_MINUS_ONE: [u32; 3] = [0xfff0_0513, 0x05e0_0893, 0x0000_0073];
+
+/// Name, words, budget, how the run ends, and what it wrote.
+const PROGRAMS: [(&str, &[u32], u64, Outcome, &[u8]); 12] = [
+    (
+        "countdown",
+        &COUNTDOWN,
+        1_000_000,
+        Outcome::Exited {
+            code: 0,
+            length: 1004,
+        },
+        &[],
+    ),
+    (
+        "just enough",
+        &COUNTDOWN,
+        1004,
+        Outcome::Exited {
+            code: 0,
+            length: 1004,
+        },
+        &[],
+    ),
+    ("one too few", &COUNTDOWN, 1003, Outcome::Spent, &[]),
+    ("no budget", &COUNTDOWN, 0, Outcome::Spent, &[]),
+    (
+        "divide",
+        &DIVIDE,
+        100,
+        Outcome::Exited {
+            code: 0,
+            length: 18,
+        },
+        &[
+            0, 0, 0, 0x80, 0, 0, 0, 0, 0xff, 0xff, 0xff, 0xff, 0, 0, 0, 0x80,
+        ],
+    ),
+    (
+        "call 80",
+        &CALL_80,
+        100,
+        Outcome::Exited {
+            code: 0,
+            length: 11,
+        },
+        &[0xda, 0xff, 0xff, 0xff],
+    ),
+    (
+        "write twice",
+        &WRITE_TWICE,
+        100,
+        Outcome::Exited {
+            code: 0,
+            length: 12,
+        },
+        &[0xb7, 5, 5, 1],
+    ),
+    (
+        "cut between the writes",
+        &WRITE_TWICE,
+        8,
+        Outcome::Spent,
+        &[0xb7, 5],
+    ),
+    (
+        "bad load",
+        &BAD_LOAD,
+        100,
+        Outcome::Trapped {
+            at: 7,
+            trap: Trap {
+                kind: TrapKind::MisalignedLoad,
+                pc: 0x0001_0070,
+            },
+        },
+        &[],
+    ),
+    ("budget before the trap", &BAD_LOAD, 7, Outcome::Spent, &[]),
+    (
+        "code",
+        &EXIT_MINUS_ONE,
+        3,
+        Outcome::Exited {
+            code: 0xffff_ffff,
+            length: 3,
+        },
+        &[],
+    ),
+    (
+        "heap end",
+        &HEAP_END,
+        100,
+        Outcome::Trapped {
+            at: 3,
+            trap: Trap {
+                kind: TrapKind::Missing,
+                pc: 0x0001_0060,
+            },
+        },
+        &[],
+    ),
+];
+
 #[test]
 fn programs(rt: HostRuntime) {
-    let exited = |code, length| Outcome::Exited { code, length };
-    let trapped = |at, kind, pc| Outcome::Trapped {
-        at,
-        trap: Trap { kind, pc },
-    };
-    let call_80 = [
-        0x0500_0893,
-        0x0000_0073,
-        0xfea1_2e23,
-        0x0010_0513,
-        0xffc1_0593,
-        0x0040_0613,
-        0x0400_0893,
-        0x0000_0073,
-        0x0000_0513,
-        0x05d0_0893,
-        0x0000_0073,
-    ];
-    // Writes its bytes 0 and 1 to descriptor 1, then its bytes 1 and 2 to descriptor 2.
-    let write_twice = [
-        0x0001_05b7,
-        0x0545_8593,
-        0x0010_0513,
-        0x0020_0613,
-        0x0400_0893,
-        0x0000_0073,
-        0x0020_0513,
-        0x0015_8593,
-        0x0000_0073,
-        0x0000_0513,
-        0x05d0_0893,
-        0x0000_0073,
-    ];
-    let nothing = 0x0000_0013;
-    let bad_load = [
-        nothing,
-        nothing,
-        nothing,
-        nothing,
-        nothing,
-        nothing,
-        nothing,
-        0x0010_2303,
-    ];
-    let exit_minus_one = [0xfff0_0513, 0x05e0_0893, 0x0000_0073];
-    let cases: [(&str, &[u32], u64, Outcome, &[u8]); 12] = [
-        ("countdown", &COUNTDOWN, 1_000_000, exited(0, 1004), &[]),
-        ("just enough", &COUNTDOWN, 1004, exited(0, 1004), &[]),
-        ("one too few", &COUNTDOWN, 1003, Outcome::Spent, &[]),
-        ("no budget", &COUNTDOWN, 0, Outcome::Spent, &[]),
-        (
-            "divide",
-            &DIVIDE,
-            100,
-            exited(0, 18),
-            &[
-                0, 0, 0, 0x80, 0, 0, 0, 0, 0xff, 0xff, 0xff, 0xff, 0, 0, 0, 0x80,
-            ],
-        ),
-        (
-            "call 80",
-            &call_80,
-            100,
-            exited(0, 11),
-            &[0xda, 0xff, 0xff, 0xff],
-        ),
-        (
-            "write twice",
-            &write_twice,
-            100,
-            exited(0, 12),
-            &[0xb7, 5, 5, 1],
-        ),
-        (
-            "cut between the writes",
-            &write_twice,
-            8,
-            Outcome::Spent,
-            &[0xb7, 5],
-        ),
-        (
-            "bad load",
-            &bad_load,
-            100,
-            trapped(7, TrapKind::MisalignedLoad, 0x0001_0070),
-            &[],
-        ),
-        ("budget before the trap", &bad_load, 7, Outcome::Spent, &[]),
-        ("code", &exit_minus_one, 3, exited(0xffff_ffff, 3), &[]),
-        (
-            "heap end",
-            &HEAP_END,
-            100,
-            trapped(3, TrapKind::Missing, 0x0001_0060),
-            &[],
-        ),
-    ];
-    for (name, words, budget, outcome, output) in cases {
+    for (name, words, budget, outcome, output) in PROGRAMS {
         let kept = run_of(rt.alloc(), words, true, budget);
         assert!(rt; kept.is_some(), "at {name}");
         if let Some((end, wrote)) = kept {

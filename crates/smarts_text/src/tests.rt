@@ -44,6 +44,54 @@ fn expect_command(
     Ok(())
 }
 
+/// Words, and the kind and place of their first fault.
+const REFUSED: [(&str, WordKind, u32); 40] = [
+    ("", WordKind::UnknownCommand, 0),
+    ("test", WordKind::UnknownCommand, 0),
+    ("Sample unit=x", WordKind::UnknownCommand, 0),
+    ("unit=16 sample", WordKind::UnknownCommand, 0),
+    ("sample unit", WordKind::UnknownKey, 1),
+    ("sample ", WordKind::UnknownKey, 1),
+    ("sample =5", WordKind::UnknownKey, 1),
+    ("sample Unit=16", WordKind::UnknownKey, 1),
+    ("sample unit =16", WordKind::UnknownKey, 1),
+    ("sample b.unit=16", WordKind::UnknownKey, 1),
+    ("sample foo=1 unit=15 foo=1", WordKind::UnknownKey, 1),
+    ("run unit=16", WordKind::UnknownKey, 1),
+    ("run budget=5 machine=scalar", WordKind::UnknownKey, 2),
+    ("sample unit=16 unit=16", WordKind::Repeated, 2),
+    ("sample unit=16 unit=x", WordKind::Repeated, 2),
+    ("sample unit=16 min=2 unit=1=6", WordKind::Repeated, 3),
+    ("sample unit=x", WordKind::BadValue, 1),
+    ("sample unit=x unit=16", WordKind::BadValue, 1),
+    ("sample unit=", WordKind::BadValue, 1),
+    ("sample unit==16", WordKind::BadValue, 1),
+    ("sample unit=+16", WordKind::BadValue, 1),
+    ("sample unit=-16", WordKind::BadValue, 1),
+    ("sample unit=1_000", WordKind::BadValue, 1),
+    ("sample unit=0x20", WordKind::BadValue, 1),
+    ("sample unit=\u{661}\u{666}", WordKind::BadValue, 1),
+    ("sample unit=00000000000000000016", WordKind::BadValue, 1),
+    ("sample machine=x", WordKind::BadValue, 1),
+    ("sample machine=RUU", WordKind::BadValue, 1),
+    ("sample machine=", WordKind::BadValue, 1),
+    ("sample unit=15", WordKind::OutOfRange, 1),
+    ("sample min=1 unit=15", WordKind::OutOfRange, 1),
+    ("sample min=2 unit=10001", WordKind::OutOfRange, 2),
+    ("sample seed=1000000000000000001", WordKind::OutOfRange, 1),
+    ("sample unit=9999999999999999999", WordKind::OutOfRange, 1),
+    ("sample offset=1000000 every=1", WordKind::OutOfRange, 1),
+    ("run budget=0", WordKind::OutOfRange, 1),
+    ("run budget=68719476737", WordKind::OutOfRange, 1),
+    ("sample offset=100", WordKind::OffsetNotBelowEvery, 2),
+    (
+        "sample machine=scalar offset=7 every=7",
+        WordKind::OffsetNotBelowEvery,
+        4,
+    ),
+    ("sample offset=1 every=1 unit=x", WordKind::BadValue, 3),
+];
+
 #[test]
 fn names_the_first_fault(rt: HostRuntime) -> Result<(), Fail> {
     assert_eq!(rt;
@@ -53,113 +101,71 @@ fn names_the_first_fault(rt: HostRuntime) -> Result<(), Fail> {
             place: 0
         }))
     );
-    for (line, kind, place) in [
-        ("", WordKind::UnknownCommand, 0),
-        ("test", WordKind::UnknownCommand, 0),
-        ("Sample unit=x", WordKind::UnknownCommand, 0),
-        ("unit=16 sample", WordKind::UnknownCommand, 0),
-        ("sample unit", WordKind::UnknownKey, 1),
-        ("sample ", WordKind::UnknownKey, 1),
-        ("sample =5", WordKind::UnknownKey, 1),
-        ("sample Unit=16", WordKind::UnknownKey, 1),
-        ("sample unit =16", WordKind::UnknownKey, 1),
-        ("sample b.unit=16", WordKind::UnknownKey, 1),
-        ("sample foo=1 unit=15 foo=1", WordKind::UnknownKey, 1),
-        ("run unit=16", WordKind::UnknownKey, 1),
-        ("run budget=5 machine=scalar", WordKind::UnknownKey, 2),
-        ("sample unit=16 unit=16", WordKind::Repeated, 2),
-        ("sample unit=16 unit=x", WordKind::Repeated, 2),
-        ("sample unit=16 min=2 unit=1=6", WordKind::Repeated, 3),
-        ("sample unit=x", WordKind::BadValue, 1),
-        ("sample unit=x unit=16", WordKind::BadValue, 1),
-        ("sample unit=", WordKind::BadValue, 1),
-        ("sample unit==16", WordKind::BadValue, 1),
-        ("sample unit=+16", WordKind::BadValue, 1),
-        ("sample unit=-16", WordKind::BadValue, 1),
-        ("sample unit=1_000", WordKind::BadValue, 1),
-        ("sample unit=0x20", WordKind::BadValue, 1),
-        ("sample unit=\u{661}\u{666}", WordKind::BadValue, 1),
-        ("sample unit=00000000000000000016", WordKind::BadValue, 1),
-        ("sample machine=x", WordKind::BadValue, 1),
-        ("sample machine=RUU", WordKind::BadValue, 1),
-        ("sample machine=", WordKind::BadValue, 1),
-        ("sample unit=15", WordKind::OutOfRange, 1),
-        ("sample min=1 unit=15", WordKind::OutOfRange, 1),
-        ("sample min=2 unit=10001", WordKind::OutOfRange, 2),
-        ("sample seed=1000000000000000001", WordKind::OutOfRange, 1),
-        ("sample unit=9999999999999999999", WordKind::OutOfRange, 1),
-        ("sample offset=1000000 every=1", WordKind::OutOfRange, 1),
-        ("run budget=0", WordKind::OutOfRange, 1),
-        ("run budget=68719476737", WordKind::OutOfRange, 1),
-        ("sample offset=100", WordKind::OffsetNotBelowEvery, 2),
-        (
-            "sample machine=scalar offset=7 every=7",
-            WordKind::OffsetNotBelowEvery,
-            4,
-        ),
-        ("sample offset=1 every=1 unit=x", WordKind::BadValue, 3),
-    ] {
+    for (line, kind, place) in REFUSED {
         expect_fault(&rt, line, kind, place)?;
     }
     Ok(())
 }
 
+/// Words that describe no processor or no program, and the kind and place of their first fault.
+const REFUSED_PROCESSORS: [(&str, WordKind, u32); 44] = [
+    ("sample ruu=8", WordKind::LsqOverRuu, 2),
+    ("sample machine=scalar lsq=33", WordKind::LsqOverRuu, 3),
+    (
+        "sample offset=1 every=1 lsq=128 ruu=127",
+        WordKind::LsqOverRuu,
+        5,
+    ),
+    ("sample l1i=64:64", WordKind::BadValue, 1),
+    ("sample l1i=64:64:4:1", WordKind::BadValue, 1),
+    ("sample l1i=3:x:4", WordKind::BadValue, 1),
+    ("sample l1d=", WordKind::BadValue, 1),
+    ("sample l1d=::", WordKind::BadValue, 1),
+    ("sample l1i=8:64:4", WordKind::OutOfRange, 1),
+    ("sample l1i=4096:64:4", WordKind::OutOfRange, 1),
+    ("sample l1d=48:64:4", WordKind::OutOfRange, 1),
+    ("sample l1d=64:0:4", WordKind::OutOfRange, 1),
+    ("sample l2=64:3:4", WordKind::OutOfRange, 1),
+    ("sample l2=64:8192:4", WordKind::OutOfRange, 1),
+    ("sample l2=64:64:0", WordKind::OutOfRange, 1),
+    ("sample l2=64:64:17", WordKind::OutOfRange, 1),
+    ("sample l2=64:64:260", WordKind::OutOfRange, 1),
+    ("sample itlb=4096:8:4", WordKind::BadValue, 1),
+    ("sample itlb=6:4", WordKind::OutOfRange, 1),
+    ("sample dtlb=8:17", WordKind::OutOfRange, 1),
+    ("sample predictor=tage:4:4:4", WordKind::BadValue, 1),
+    ("sample predictor=gshare", WordKind::BadValue, 1),
+    ("sample predictor=gshare:12:9", WordKind::BadValue, 1),
+    (
+        "sample predictor=gshare:12:9:8,bimodal:4:2:0",
+        WordKind::BadValue,
+        1,
+    ),
+    ("sample predictor=gshare:3:9:8", WordKind::OutOfRange, 1),
+    ("sample predictor=gshare:15:9:8", WordKind::OutOfRange, 1),
+    ("sample predictor=bimodal:4:1:0", WordKind::OutOfRange, 1),
+    ("sample predictor=bimodal:4:11:0", WordKind::OutOfRange, 1),
+    ("sample predictor=bimodal:4:2:17", WordKind::OutOfRange, 1),
+    ("sample fetch=9", WordKind::OutOfRange, 1),
+    ("sample ruu=257", WordKind::OutOfRange, 1),
+    ("sample lsq=1", WordKind::OutOfRange, 1),
+    ("sample tlblat=201", WordKind::OutOfRange, 1),
+    ("sample workers=1", WordKind::UnknownKey, 1),
+    ("sample size=1", WordKind::UnknownKey, 1),
+    ("demo", WordKind::Missing, 1),
+    ("demo lsq=33 offset=1 every=1", WordKind::Missing, 4),
+    ("demo size=1 lsq=33", WordKind::LsqOverRuu, 3),
+    ("demo size=1 offset=100", WordKind::OffsetNotBelowEvery, 3),
+    ("demo size=0", WordKind::OutOfRange, 1),
+    ("demo size=1000001", WordKind::OutOfRange, 1),
+    ("demo size=", WordKind::BadValue, 1),
+    ("demo size=1 size=1", WordKind::Repeated, 2),
+    ("run ruu=32", WordKind::UnknownKey, 1),
+];
+
 #[test]
 fn names_faults_of_processors_and_sizes(rt: HostRuntime) -> Result<(), Fail> {
-    for (line, kind, place) in [
-        ("sample ruu=8", WordKind::LsqOverRuu, 2),
-        ("sample machine=scalar lsq=33", WordKind::LsqOverRuu, 3),
-        (
-            "sample offset=1 every=1 lsq=128 ruu=127",
-            WordKind::LsqOverRuu,
-            5,
-        ),
-        ("sample l1i=64:64", WordKind::BadValue, 1),
-        ("sample l1i=64:64:4:1", WordKind::BadValue, 1),
-        ("sample l1i=3:x:4", WordKind::BadValue, 1),
-        ("sample l1d=", WordKind::BadValue, 1),
-        ("sample l1d=::", WordKind::BadValue, 1),
-        ("sample l1i=8:64:4", WordKind::OutOfRange, 1),
-        ("sample l1i=4096:64:4", WordKind::OutOfRange, 1),
-        ("sample l1d=48:64:4", WordKind::OutOfRange, 1),
-        ("sample l1d=64:0:4", WordKind::OutOfRange, 1),
-        ("sample l2=64:3:4", WordKind::OutOfRange, 1),
-        ("sample l2=64:8192:4", WordKind::OutOfRange, 1),
-        ("sample l2=64:64:0", WordKind::OutOfRange, 1),
-        ("sample l2=64:64:17", WordKind::OutOfRange, 1),
-        ("sample l2=64:64:260", WordKind::OutOfRange, 1),
-        ("sample itlb=4096:8:4", WordKind::BadValue, 1),
-        ("sample itlb=6:4", WordKind::OutOfRange, 1),
-        ("sample dtlb=8:17", WordKind::OutOfRange, 1),
-        ("sample predictor=tage:4:4:4", WordKind::BadValue, 1),
-        ("sample predictor=gshare", WordKind::BadValue, 1),
-        ("sample predictor=gshare:12:9", WordKind::BadValue, 1),
-        (
-            "sample predictor=gshare:12:9:8,bimodal:4:2:0",
-            WordKind::BadValue,
-            1,
-        ),
-        ("sample predictor=gshare:3:9:8", WordKind::OutOfRange, 1),
-        ("sample predictor=gshare:15:9:8", WordKind::OutOfRange, 1),
-        ("sample predictor=bimodal:4:1:0", WordKind::OutOfRange, 1),
-        ("sample predictor=bimodal:4:11:0", WordKind::OutOfRange, 1),
-        ("sample predictor=bimodal:4:2:17", WordKind::OutOfRange, 1),
-        ("sample fetch=9", WordKind::OutOfRange, 1),
-        ("sample ruu=257", WordKind::OutOfRange, 1),
-        ("sample lsq=1", WordKind::OutOfRange, 1),
-        ("sample tlblat=201", WordKind::OutOfRange, 1),
-        ("sample workers=1", WordKind::UnknownKey, 1),
-        ("sample size=1", WordKind::UnknownKey, 1),
-        ("demo", WordKind::Missing, 1),
-        ("demo lsq=33 offset=1 every=1", WordKind::Missing, 4),
-        ("demo size=1 lsq=33", WordKind::LsqOverRuu, 3),
-        ("demo size=1 offset=100", WordKind::OffsetNotBelowEvery, 3),
-        ("demo size=0", WordKind::OutOfRange, 1),
-        ("demo size=1000001", WordKind::OutOfRange, 1),
-        ("demo size=", WordKind::BadValue, 1),
-        ("demo size=1 size=1", WordKind::Repeated, 2),
-        ("run ruu=32", WordKind::UnknownKey, 1),
-    ] {
+    for (line, kind, place) in REFUSED_PROCESSORS {
         expect_fault(&rt, line, kind, place)?;
     }
     Ok(())
@@ -173,168 +179,185 @@ fn sample(design: Design, config: Config, test: Test) -> Command {
     }
 }
 
+const DESIGN: Design = Design {
+    unit: 1000,
+    warm: 2000,
+    every: 100,
+    offset: 0,
+    seed: 1,
+    budget: 1_000_000_000,
+};
+
+const TEST: Test = Test {
+    min: 30,
+    z: 3000,
+    error: 300,
+};
+
+const LEAST: Design = Design {
+    unit: 16,
+    warm: 0,
+    every: 1,
+    offset: 0,
+    seed: 0,
+    budget: 1,
+};
+
+const MOST: Design = Design {
+    unit: 10_000,
+    warm: 100_000,
+    every: 1_000_000,
+    offset: 999_999,
+    seed: 1_000_000_000_000_000_000,
+    budget: 1 << 36,
+};
+
+/// Every key of `sample` with the least value that it takes.
+const LEAST_WORDS: &str =
+    "sample unit=16 warm=0 every=1 offset=0 seed=0 budget=1 min=2 z=1 error=1 machine=scalar \
+    l1i=16:1:1 l1d=32:2:1 l2=64:4:1 itlb=8:1 dtlb=16:1 predictor=bimodal:4:2:0 fetch=1 \
+    dispatch=1 issue=1 retire=1 queue=1 ruu=4 lsq=2 penalty=1 alus=1 muls=1 divs=1 loads=1 \
+    stores=1 branches=1 mullat=1 divlat=1 l1lat=1 l2lat=1 memlat=1 tlblat=0";
+
+/// Every key of `sample` with the greatest value that it takes, in another order.
+const MOST_WORDS: &str =
+    "sample tlblat=200 memlat=1000 l2lat=100 l1lat=16 divlat=64 mullat=16 branches=7 stores=6 \
+    loads=5 divs=4 muls=3 alus=2 penalty=64 lsq=128 ruu=256 queue=32 retire=8 issue=7 dispatch=6 \
+    fetch=5 predictor=gshare:14:10:16 dtlb=4096:16 itlb=2048:15 l2=256:1024:14 l1d=128:512:13 \
+    l1i=16:256:12 machine=ruu error=5000 z=4000 min=65536 budget=68719476736 \
+    seed=1000000000000000000 offset=999999 every=1000000 warm=100000 unit=10000";
+
 #[test]
-fn reads_commands(rt: HostRuntime) -> Result<(), Fail> {
-    let design = Design {
-        unit: 1000,
-        warm: 2000,
-        every: 100,
-        offset: 0,
-        seed: 1,
-        budget: 1_000_000_000,
+fn reads_samples(rt: HostRuntime) -> Result<(), Fail> {
+    let usual = sample(DESIGN, usual_config()?, TEST);
+    expect_command(&rt, "sample", &usual)?;
+    expect_command(
+        &rt,
+        "sample unit=0000000000000001000 machine=ruu offset=0 predictor=gshare:0012:9:8",
+        &usual,
+    )?;
+    let least = Test {
+        min: 2,
+        z: 1,
+        error: 1,
     };
-    let test = Test {
-        min: 30,
-        z: 3000,
-        error: 300,
+    expect_command(&rt, LEAST_WORDS, &sample(LEAST, least_config()?, least))?;
+    let most = Test {
+        min: 65_536,
+        z: 4000,
+        error: 5000,
     };
-    let least = Design {
-        unit: 16,
-        warm: 0,
-        every: 1,
-        offset: 0,
-        seed: 0,
-        budget: 1,
-    };
-    let most = Design {
-        unit: 10_000,
-        warm: 100_000,
-        every: 1_000_000,
-        offset: 999_999,
-        seed: 1_000_000_000_000_000_000,
-        budget: 1 << 36,
-    };
-    let cases = [
-        ("sample", sample(design, usual_config()?, test)),
-        (
-            "sample unit=0000000000000001000 machine=ruu offset=0 predictor=gshare:0012:9:8",
-            sample(design, usual_config()?, test),
-        ),
-        (
-            "sample unit=16 warm=0 every=1 offset=0 seed=0 budget=1 min=2 z=1 error=1 machine=scalar l1i=16:1:1 l1d=32:2:1 l2=64:4:1 itlb=8:1 dtlb=16:1 predictor=bimodal:4:2:0 fetch=1 dispatch=1 issue=1 retire=1 queue=1 ruu=4 lsq=2 penalty=1 alus=1 muls=1 divs=1 loads=1 stores=1 branches=1 mullat=1 divlat=1 l1lat=1 l2lat=1 memlat=1 tlblat=0",
-            sample(
-                least,
-                least_config()?,
-                Test {
-                    min: 2,
-                    z: 1,
-                    error: 1,
-                },
-            ),
-        ),
-        (
-            "sample tlblat=200 memlat=1000 l2lat=100 l1lat=16 divlat=64 mullat=16 branches=7 stores=6 loads=5 divs=4 muls=3 alus=2 penalty=64 lsq=128 ruu=256 queue=32 retire=8 issue=7 dispatch=6 fetch=5 predictor=gshare:14:10:16 dtlb=4096:16 itlb=2048:15 l2=256:1024:14 l1d=128:512:13 l1i=16:256:12 machine=ruu error=5000 z=4000 min=65536 budget=68719476736 seed=1000000000000000000 offset=999999 every=1000000 warm=100000 unit=10000",
-            sample(
-                most,
-                most_config()?,
-                Test {
-                    min: 65_536,
-                    z: 4000,
-                    error: 5000,
-                },
-            ),
-        ),
-        (
-            "run",
-            Command::Run {
-                budget: 1_000_000_000,
-            },
-        ),
-        ("run budget=1", Command::Run { budget: 1 }),
-        (
-            "demo size=1",
-            Command::Demo {
-                size: 1,
-                design,
-                config: usual_config()?,
-                test,
-            },
-        ),
-        (
-            "demo machine=ruu size=1000000",
-            Command::Demo {
-                size: 1_000_000,
-                design,
-                config: usual_config()?,
-                test,
-            },
-        ),
-        ("run budget=68719476736", Command::Run { budget: 1 << 36 }),
-    ];
-    for (line, command) in &cases {
-        expect_command(&rt, line, command)?;
+    expect_command(&rt, MOST_WORDS, &sample(MOST, most_config()?, most))
+}
+
+#[test]
+fn reads_other_commands(rt: HostRuntime) -> Result<(), Fail> {
+    for (line, budget) in [
+        ("run", 1_000_000_000),
+        ("run budget=1", 1),
+        ("run budget=68719476736", 1 << 36),
+    ] {
+        expect_command(&rt, line, &Command::Run { budget })?;
+    }
+    for (line, size) in [
+        ("demo size=1", 1),
+        ("demo machine=ruu size=1000000", 1_000_000),
+    ] {
+        let demo = Command::Demo {
+            size,
+            design: DESIGN,
+            config: usual_config()?,
+            test: TEST,
+        };
+        expect_command(&rt, line, &demo)?;
     }
     Ok(())
 }
 
+/// Statuses, with the number and the line of each.
+const STATUSES: [(Status, u8, &str); 13] = [
+    (Status::Done, 0, ""),
+    (
+        Status::BadWords(WordFault {
+            kind: WordKind::NoCommand,
+            place: 0,
+        }),
+        1,
+        "words: fault 1 at 0\n",
+    ),
+    (
+        Status::BadWords(WordFault {
+            kind: WordKind::OffsetNotBelowEvery,
+            place: u32::MAX,
+        }),
+        1,
+        "words: fault 9 at 4294967295\n",
+    ),
+    (Status::BadImage(ImageFault::NotElf), 2, "image: fault 1\n"),
+    (
+        Status::BadImage(ImageFault::SpanTooLarge),
+        2,
+        "image: fault 11\n",
+    ),
+    (
+        Status::Trapped {
+            at: 7,
+            trap: Trap {
+                kind: TrapKind::MisalignedLoad,
+                pc: 0x0001_0070,
+            },
+        },
+        3,
+        "trapped at 7: kind 3, pc 00010070\n",
+    ),
+    (
+        Status::Trapped {
+            at: u64::MAX,
+            trap: Trap {
+                kind: TrapKind::BadBuffer,
+                pc: 0xFEDC_BA98,
+            },
+        },
+        3,
+        "trapped at 18446744073709551615: kind 7, pc fedcba98\n",
+    ),
+    (
+        Status::BudgetSpent { budget: 1003 },
+        4,
+        "budget spent after 1003\n",
+    ),
+    (
+        Status::BadDesign(DesignFault::NoUnits { length: 15 }),
+        6,
+        "design: fault 1 value 15\n",
+    ),
+    (
+        Status::BadDesign(DesignFault::TooMany { count: 66048 }),
+        6,
+        "design: fault 2 value 66048\n",
+    ),
+    (Status::ReadFault, 7, "read fault\n"),
+    (
+        Status::WriteFault { taken: 10 },
+        8,
+        "write fault after 10\n",
+    ),
+    (Status::NoMemory, 9, "no memory\n"),
+];
+
 #[test]
 fn writes_one_line_a_status(rt: HostRuntime) {
-    let words = |kind, place| Status::BadWords(WordFault { kind, place });
-    for (status, number, text) in [
-        (Status::Done, 0, ""),
-        (words(WordKind::NoCommand, 0), 1, "words: fault 1 at 0\n"),
-        (
-            words(WordKind::OffsetNotBelowEvery, u32::MAX),
-            1,
-            "words: fault 9 at 4294967295\n",
-        ),
-        (Status::BadImage(ImageFault::NotElf), 2, "image: fault 1\n"),
-        (
-            Status::BadImage(ImageFault::SpanTooLarge),
-            2,
-            "image: fault 11\n",
-        ),
-        (
-            Status::Trapped {
-                at: 7,
-                trap: Trap {
-                    kind: TrapKind::MisalignedLoad,
-                    pc: 0x0001_0070,
-                },
-            },
-            3,
-            "trapped at 7: kind 3, pc 00010070\n",
-        ),
-        (
-            Status::Trapped {
-                at: u64::MAX,
-                trap: Trap {
-                    kind: TrapKind::BadBuffer,
-                    pc: 0xFEDC_BA98,
-                },
-            },
-            3,
-            "trapped at 18446744073709551615: kind 7, pc fedcba98\n",
-        ),
-        (
-            Status::BudgetSpent { budget: 1003 },
-            4,
-            "budget spent after 1003\n",
-        ),
-        (
-            Status::BadDesign(DesignFault::NoUnits { length: 15 }),
-            6,
-            "design: fault 1 value 15\n",
-        ),
-        (
-            Status::BadDesign(DesignFault::TooMany { count: 66048 }),
-            6,
-            "design: fault 2 value 66048\n",
-        ),
-        (Status::ReadFault, 7, "read fault\n"),
-        (
-            Status::WriteFault { taken: 10 },
-            8,
-            "write fault after 10\n",
-        ),
-        (Status::NoMemory, 9, "no memory\n"),
-    ] {
+    for (status, number, text) in STATUSES {
         let mut out = [b'.'; 64];
         let len = fault_text(&status, &mut out);
         assert_eq!(rt; &out[..len], text.as_bytes(), "{text}");
         assert!(rt; out[len..].iter().all(|&byte| byte == b'.'), "{text}");
         assert_eq!(rt; status.number(), number, "{text}");
     }
+}
+
+#[test]
+fn writes_how_a_program_exited(rt: HostRuntime) {
     for (code, length, text) in [
         (0, 18, "exit 0 after 18 instructions\n"),
         (

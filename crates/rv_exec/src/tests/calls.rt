@@ -5,59 +5,60 @@ use std::test::Fail;
 
 /// Call number, registers 10 to 12, and after the call register 10, the exit code, the heap end and
 /// the bytes written.
+const CALLS: [(u32, u32, u32, u32, u32, Option<u32>, u32, Option<Buffer>); 15] = [
+    (
+        64,
+        1,
+        0x0000_2000,
+        4,
+        4,
+        None,
+        0x0000_3800,
+        Some(Buffer {
+            addr: 0x0000_2000,
+            len: 4,
+        }),
+    ),
+    (
+        64,
+        2,
+        0x0000_2001,
+        3,
+        3,
+        None,
+        0x0000_3800,
+        Some(Buffer {
+            addr: 0x0000_2001,
+            len: 3,
+        }),
+    ),
+    (64, 1, 5, 0, 0, None, 0x0000_3800, None),
+    (64, 0, 0x0000_2000, 4, 0xffff_fff7, None, 0x0000_3800, None),
+    (64, 3, 5, 0, 0xffff_fff7, None, 0x0000_3800, None),
+    (93, 7, 0, 0, 7, Some(7), 0x0000_3800, None),
+    (
+        94,
+        0xffff_ffff,
+        0,
+        0,
+        0xffff_ffff,
+        Some(0xffff_ffff),
+        0x0000_3800,
+        None,
+    ),
+    (214, 0, 0, 0, 0x0000_3800, None, 0x0000_3800, None),
+    (214, 0x0000_2fff, 0, 0, 0x0000_3800, None, 0x0000_3800, None),
+    (214, 0x0000_3000, 0, 0, 0x0000_3000, None, 0x0000_3000, None),
+    (214, 0x0400_3000, 0, 0, 0x0400_3000, None, 0x0400_3000, None),
+    (214, 0x0400_3001, 0, 0, 0x0000_3800, None, 0x0000_3800, None),
+    (0, 1, 2, 3, 0xffff_ffda, None, 0x0000_3800, None),
+    (0xffff_ffff, 1, 2, 3, 0xffff_ffda, None, 0x0000_3800, None),
+    (92, 1, 2, 3, 0xffff_ffda, None, 0x0000_3800, None),
+];
+
 #[test]
 fn calls(rt: HostRuntime) {
-    let cases = [
-        (
-            64,
-            1,
-            0x0000_2000,
-            4,
-            4,
-            None,
-            0x0000_3800,
-            Some(Buffer {
-                addr: 0x0000_2000,
-                len: 4,
-            }),
-        ),
-        (
-            64,
-            2,
-            0x0000_2001,
-            3,
-            3,
-            None,
-            0x0000_3800,
-            Some(Buffer {
-                addr: 0x0000_2001,
-                len: 3,
-            }),
-        ),
-        (64, 1, 5, 0, 0, None, 0x0000_3800, None),
-        (64, 0, 0x0000_2000, 4, 0xffff_fff7, None, 0x0000_3800, None),
-        (64, 3, 5, 0, 0xffff_fff7, None, 0x0000_3800, None),
-        (93, 7, 0, 0, 7, Some(7), 0x0000_3800, None),
-        (
-            94,
-            0xffff_ffff,
-            0,
-            0,
-            0xffff_ffff,
-            Some(0xffff_ffff),
-            0x0000_3800,
-            None,
-        ),
-        (214, 0, 0, 0, 0x0000_3800, None, 0x0000_3800, None),
-        (214, 0x0000_2fff, 0, 0, 0x0000_3800, None, 0x0000_3800, None),
-        (214, 0x0000_3000, 0, 0, 0x0000_3000, None, 0x0000_3000, None),
-        (214, 0x0400_3000, 0, 0, 0x0400_3000, None, 0x0400_3000, None),
-        (214, 0x0400_3001, 0, 0, 0x0000_3800, None, 0x0000_3800, None),
-        (0, 1, 2, 3, 0xffff_ffda, None, 0x0000_3800, None),
-        (0xffff_ffff, 1, 2, 3, 0xffff_ffda, None, 0x0000_3800, None),
-        (92, 1, 2, 3, 0xffff_ffda, None, 0x0000_3800, None),
-    ];
-    for (number, first, second, third, answer, exit, brk, wrote) in cases {
+    for (number, first, second, third, answer, exit, brk, wrote) in CALLS {
         let mut core = core_at(0x1000, 0, 0);
         core.regs[17] = number;
         core.regs[10] = first;
