@@ -12,7 +12,7 @@ use Rattle.ruu_timing.specs.Dispatch.{access_stores, completion_in}
 use Rattle.ruu_timing.specs.Times.{accesses, stores_to}
 use Rattle.ruu_timing.specs.declared.pipeline.Access.{Access}
 use Rattle.ruu_timing.specs.declared.timed.Timed.{Timed}
-use Rattle.ruu_timing.proofs.Awaited.{last_store_le}
+use Rattle.ruu_timing.proofs.Awaited.{last_that_le}
 use Rattle.ruu_timing.proofs.Choices.{either_le}
 
 -- all of them are retired
@@ -123,4 +123,4 @@ pub store_known :
     (completion_in (find (λ access. access_stores word access) (accesses_from x from k)))
 store_known x by word from k early =
     completion_found x by (accesses_from x from k) (λ access. access_stores word access) (last_store x word from)
-    (last_store x word (from + k)) (early (last_store x word from) (last_store_le x word from)) (finds_store x word from k)
+    (last_store x word (from + k)) (early (last_store x word from) (last_that_le (λ y. stores_to word y) x from)) (finds_store x word from k)

@@ -1,10 +1,9 @@
 -- What is looked for in the list of the first instructions, the latest first, and by their places.
-use Rattle.std.proofs.Common.{Bool, List, Some, ap, arith, cond, false, filter, inl, inr, length, nat_le, refl, suc, sym, true, zero, ℕ, ◌≡◌, ◌-◌, ◌==◌, [], ◌∷◌, ◌∙◌}
+use Rattle.std.proofs.Common.{Bool, List, Some, ap, arith, cond, false, filter, inl, inr, length, nat_le, refl, suc, sym, true, zero, ℕ, ◌≡◌, ◌-◌, [], ◌∷◌, ◌∙◌}
 use Rattle.std.proofs.lemmas.Bool.{cases_lt, lt-leb}
 use Rattle.std.specs.List.{find, slice_get}
-use Rattle.rv_isa.specs.declared.roles.Class.{Class}
-use Rattle.ruu_timing.specs.Schedule.{access_ago, ago, alike_in, completion_of, issued_in, last_store, last_writer}
-use Rattle.ruu_timing.specs.Times.{accesses, issues_alike, issues_at, memory_ones, stores_to, time_of, writes}
+use Rattle.ruu_timing.specs.Schedule.{access_ago, ago, completion_of, count_that, last_that}
+use Rattle.ruu_timing.specs.Times.{accesses, memory_ones, time_of}
 use Rattle.ruu_timing.specs.declared.timed.Timed.{Timed}
 use Rattle.ruu_timing.proofs.Counts.{absent, there}
 
@@ -30,51 +29,27 @@ got x time (suc i) zero =
     sym (there (λ j. time (x j)) (suc i) 1 (omega arith) ∙ ap (λ j. time (x j)) e)
 got x time (suc i) (suc k) = got x time i k ∙ sym (ago_next (λ j. time (x j)) i k)
 
-pub found_writer :
-    (x : ℕ → Timed) (r i : ℕ)
-    → time_of (λ y. y.completion) (find (λ y. writes r y) (listed x i)) ≡ completion_of x (last_writer x r i)
-found_writer x r zero = refl
-found_writer x r (suc i) =
-    elim (writes r (x i)) as (λ b.
-    time_of (λ y. y.completion) (cond b (Some (x i)) (find (λ y. writes r y) (listed x i)))
-    ≡ completion_of x (cond b (suc i) (last_writer x r i))) [
+pub found_last :
+    (x : ℕ → Timed) (is : Timed → Bool) (i : ℕ)
+    → time_of (λ y. y.completion) (find is (listed x i)) ≡ completion_of x (last_that is x i)
+found_last x is zero = refl
+found_last x is (suc i) =
+    elim (is (x i)) as (λ b.
+    time_of (λ y. y.completion) (cond b (Some (x i)) (find is (listed x i)))
+    ≡ completion_of x (cond b (suc i) (last_that is x i))) [
       | true ↦ refl
-      | false ↦ found_writer x r i
+      | false ↦ found_last x is i
     ]
 
-pub found_store :
-    (x : ℕ → Timed) (word i : ℕ)
-    → time_of (λ y. y.completion) (find (λ y. stores_to word y) (listed x i)) ≡ completion_of x (last_store x word i)
-found_store x word zero = refl
-found_store x word (suc i) =
-    elim (stores_to word (x i)) as (λ b.
-    time_of (λ y. y.completion) (cond b (Some (x i)) (find (λ y. stores_to word y) (listed x i)))
-    ≡ completion_of x (cond b (suc i) (last_store x word i))) [
-      | true ↦ refl
-      | false ↦ found_store x word i
-    ]
-
-pub count_issued :
-    (x : ℕ → Timed) (t i : ℕ) → length (filter (λ y. issues_at t y) (listed x i)) ≡ issued_in x t i
-count_issued x t zero = refl
-count_issued x t (suc i) =
-    elim ((x i).issue == t) as (λ b.
-    length (cond b (x i ∷ filter (λ y. issues_at t y) (listed x i)) (filter (λ y. issues_at t y) (listed x i)))
-    ≡ cond b (suc (issued_in x t i)) (issued_in x t i)) [
-      | true ↦ ap suc (count_issued x t i)
-      | false ↦ count_issued x t i
-    ]
-
-pub count_alike :
-    (x : ℕ → Timed) (class : Class) (t i : ℕ)
-    → length (filter (λ y. issues_alike class t y) (listed x i)) ≡ alike_in x class t i
-count_alike x class t zero = refl
-count_alike x class t (suc i) =
-    elim (issues_alike class t (x i)) as (λ b.
-    length (cond b (x i ∷ filter (λ y. issues_alike class t y) (listed x i)) (filter (λ y. issues_alike class t y) (listed x i)))
-    ≡ cond b (suc (alike_in x class t i)) (alike_in x class t i)) [
-      | true ↦ ap suc (count_alike x class t i)
-      | false ↦ count_alike x class t i
+pub counted :
+    (x : ℕ → Timed) (is : Timed → Bool) (i : ℕ) → length (filter is (listed x i)) ≡ count_that is x i
+counted x is zero = refl
+counted x is (suc i) =
+    elim (is (x i)) as (λ b.
+    length (cond b (x i ∷ filter is (listed x i)) (filter is (listed x i)))
+    ≡ cond b (suc (count_that is x i)) (count_that is x i)) [
+      | true ↦ ap suc (counted x is i)
+      | false ↦ counted x is i
     ]
 
 pub found_access :

@@ -1,34 +1,27 @@
 -- No instruction issues long after its dispatch: each waits at most for those before it in the register
 -- update unit, one after the other.
-use Rattle.std.proofs.Common.{arith, false, inl, inr, nat_lt, refl, suc, sym, true, zero, ℕ, ◌≡◌, ◌+◌, ◌-◌, ◌*◌, ◌<◌, ◌≤◌, ◌==◌, ◌∙◌}
+use Rattle.std.proofs.Common.{Bool, arith, false, inl, inr, nat_lt, refl, suc, sym, true, zero, ℕ, ◌≡◌, ◌+◌, ◌-◌, ◌*◌, ◌<◌, ◌≤◌, ◌==◌, ◌∙◌}
 use Rattle.std.proofs.lemmas.Bool.{cases_lt, false≢true, lt-ltb, ne_eqb}
 use Rattle.hierarchy.specs.Widths.{AreWidths}
 use Rattle.hierarchy.specs.declared.widths.Widths.{Widths}
 use Rattle.rv_isa.specs.declared.roles.Class.{Class}
 use Rattle.ruu_timing.specs.Class.{limit_of}
 use Rattle.ruu_timing.specs.Pipeline.{IsCount}
-use Rattle.ruu_timing.specs.Schedule.{IsSchedule, alike_in, awaited_store, completion_of, has_place, issued_in, ready_at, writer_of}
+use Rattle.ruu_timing.specs.Schedule.{IsSchedule, awaited_store, completion_of, count_that, has_place, ready_at, writer_of}
 use Rattle.ruu_timing.specs.Times.{issues_alike}
 use Rattle.ruu_timing.specs.declared.timed.Timed.{Timed}
 use Rattle.ruu_timing.proofs.Awaited.{awaited_le, writer_le}
 use Rattle.ruu_timing.proofs.Rising.{in_order}
 use Rattle.ruu_timing.proofs.Slots.{limit_positive}
 
--- in a cycle behind all their issues none of them issues
-pub none_issue : (x : ℕ → Timed) (t i : ℕ) → ((j : ℕ) → j < i → (x j).issue < t) → issued_in x t i ≡ 0
-none_issue x t zero early = refl
-none_issue x t (suc i) early =
+-- in a cycle behind all their issues none of them issues, whatever else is asked of them
+pub none_issue :
+    (x : ℕ → Timed) (is : Timed → Bool) (t i : ℕ) → ((j : ℕ) → ((x j).issue == t) ≡ false → is (x j) ≡ false)
+    → ((j : ℕ) → j < i → (x j).issue < t) → count_that is x i ≡ 0
+none_issue x is t zero asks early = refl
+none_issue x is t (suc i) asks early =
     let here : (x i).issue < t = early i (omega arith) in
-    let other : ((x i).issue == t) ≡ false = ne_eqb (x i).issue t (λ e. omega arith) in
-    rw other (none_issue x t i (λ j below. early j (omega arith)))
-
-pub none_alike : (x : ℕ → Timed) (class : Class) (t i : ℕ) → ((j : ℕ) → j < i → (x j).issue < t) → alike_in x class t i ≡ 0
-none_alike x class t zero early = refl
-none_alike x class t (suc i) early =
-    let here : (x i).issue < t = early i (omega arith) in
-    let other : ((x i).issue == t) ≡ false = ne_eqb (x i).issue t (λ e. omega arith) in
-    let none : issues_alike class t (x i) ≡ false = rw other refl in
-    rw none (none_alike x class t i (λ j below. early j (omega arith)))
+    rw (asks i (ne_eqb (x i).issue t (λ e. omega arith))) (none_issue x is t i asks (λ j below. early j (omega arith)))
 
 free_place :
     (w : Widths) (x : ℕ → Timed) (i t : ℕ) → AreWidths w → ((j : ℕ) → j < i → (x j).issue < t) → has_place w x i t ≡ true
@@ -37,7 +30,10 @@ free_place w x i t widths early =
     let class : Class = (x i).mark.class in
     let wide : nat_lt 0 w.issue ≡ true = lt-ltb 0 w.issue (omega (arith, widths.issue.0)) in
     let limited : nat_lt 0 (limit_of w class) ≡ true = lt-ltb 0 (limit_of w class) (limit_positive w class widths) in
-    rw (none_issue x t i early, none_alike x class t i early) (rw (wide, limited) refl)
+    rw (
+      none_issue x (λ y. y.issue == t) t i (λ j other. other) early,
+      none_issue x (λ y. issues_alike class t y) t i (λ j other. rw other refl) early,
+    ) (rw (wide, limited) refl)
 
 completion_by :
     (x : ℕ → Timed) (i by number : ℕ) → ((j : ℕ) → j < i → (x j).completion ≤ by) → number ≤ i → completion_of x number ≤ by

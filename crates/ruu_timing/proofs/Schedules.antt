@@ -11,11 +11,11 @@ use Rattle.ruu_timing.specs.Class.{is_load}
 use Rattle.ruu_timing.specs.Laws.{IsFirst}
 use Rattle.ruu_timing.specs.Rows.{AreTimed}
 use Rattle.ruu_timing.specs.Schedule.{IsSchedule, ago, begin_at, completion_of, dispatch_at, has_place, next_at, nothing, ready_at, retirement_at, store_of, timed_at, writer_of}
-use Rattle.ruu_timing.specs.Times.{back, dispatch_of, fetch_of, has_slot, issue_of, next_fetch, ready_of, retirement_of, stored, time_of, timed_after, timed_of, times, written}
+use Rattle.ruu_timing.specs.Times.{back, dispatch_of, fetch_of, has_slot, issue_of, issues_alike, issues_at, next_fetch, ready_of, retirement_of, stored, stores_to, time_of, timed_after, timed_of, times, writes, written}
 use Rattle.ruu_timing.specs.declared.timed.Timed.{Timed}
 use Rattle.ruu_timing.proofs.Bounds.{small}
 use Rattle.ruu_timing.proofs.Elements.{each_of, each_take}
-use Rattle.ruu_timing.proofs.Listed.{count_alike, count_issued, found_access, found_store, found_writer, got, listed}
+use Rattle.ruu_timing.proofs.Listed.{counted, found_access, found_last, got, listed}
 use Rattle.ruu_timing.proofs.Slots.{first_slot_is, issue_is_least}
 use Rattle.ruu_timing.proofs.Totals.{after_timed, marked_at, times_more}
 
@@ -75,12 +75,12 @@ fetch_is w x i m widths =
 written_is :
     (x : ℕ → Timed) (i : ℕ) (r : Option ℕ) → written (listed x i) r ≡ completion_of x (writer_of x i r)
 written_is x i None = refl
-written_is x i (Some r) = found_writer x r i
+written_is x i (Some r) = found_last x (λ y. writes r y) i
 
 stored_is :
     (x : ℕ → Timed) (i : ℕ) (word : Option ℕ) → stored (listed x i) word ≡ completion_of x (store_of x i word)
 stored_is x i None = refl
-stored_is x i (Some word) = found_store x word i
+stored_is x i (Some word) = found_last x (λ y. stores_to word y) i
 
 awaited_is :
     (x : ℕ → Timed) (i : ℕ) (b : Bool) (word : Option ℕ)
@@ -101,7 +101,7 @@ ready_is x i =
 pub slot_is :
     (w : Widths) (x : ℕ → Timed) (i t : ℕ) → has_slot w (listed x i) (x i).mark.class t ≡ has_place w x i t
 unfolding has_slot has_place
-slot_is w x i t = rw (count_issued x t i, count_alike x (x i).mark.class t i) refl
+slot_is w x i t = rw (counted x (λ y. issues_at t y) i, counted x (λ y. issues_alike (x i).mark.class t y) i) refl
 
 pub retirement_is :
     (w : Widths) (x : ℕ → Timed) (i : ℕ) → AreWidths w

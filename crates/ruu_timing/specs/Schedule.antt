@@ -50,15 +50,18 @@ abbrev pub retirement_of : (ℕ → Timed) → ℕ → ℕ
 retirement_of x zero = 0
 retirement_of x (suc i) = (x i).retirement
 
--- the number of the last of the first i instructions that writes a register
-abbrev pub last_writer : (ℕ → Timed) → ℕ → ℕ → ℕ
-last_writer x register zero = 0
-last_writer x register (suc i) = if writes register (x i) then suc i else last_writer x register i
+-- the number of the last of the first i instructions of which this is true
+abbrev pub last_that : (Timed → Bool) → (ℕ → Timed) → ℕ → ℕ
+last_that is x zero = 0
+last_that is x (suc i) = if is (x i) then suc i else last_that is x i
 
--- the number of the last of the first i instructions that stores to a word
+-- the last of them that writes a register
+abbrev pub last_writer : (ℕ → Timed) → ℕ → ℕ → ℕ
+last_writer x register i = last_that (λ y. writes register y) x i
+
+-- the last of them that stores to a word
 abbrev pub last_store : (ℕ → Timed) → ℕ → ℕ → ℕ
-last_store x word zero = 0
-last_store x word (suc i) = if stores_to word (x i) then suc i else last_store x word i
+last_store x word i = last_that (λ y. stores_to word y) x i
 
 -- the last writer of a register that is read, if one is
 abbrev pub writer_of : (ℕ → Timed) → ℕ → Option ℕ → ℕ
@@ -74,15 +77,18 @@ store_of x i (Some word) = last_store x word i
 abbrev pub awaited_store : (ℕ → Timed) → ℕ → ℕ
 awaited_store x i = if is_load (x i).mark.class then store_of x i (x i).mark.word else 0
 
--- how many of the first i instructions issue in a cycle
+-- of how many of the first i instructions this is true
+abbrev pub count_that : (Timed → Bool) → (ℕ → Timed) → ℕ → ℕ
+count_that is x zero = 0
+count_that is x (suc i) = if is (x i) then suc (count_that is x i) else count_that is x i
+
+-- how many of them issue in a cycle
 abbrev pub issued_in : (ℕ → Timed) → ℕ → ℕ → ℕ
-issued_in x t zero = 0
-issued_in x t (suc i) = if (x i).issue == t then suc (issued_in x t i) else issued_in x t i
+issued_in x t i = count_that (λ y. y.issue == t) x i
 
 -- how many of them are of a class
 abbrev pub alike_in : (ℕ → Timed) → Class → ℕ → ℕ → ℕ
-alike_in x class t zero = 0
-alike_in x class t (suc i) = if issues_alike class t (x i) then suc (alike_in x class t i) else alike_in x class t i
+alike_in x class t i = count_that (λ y. issues_alike class t y) x i
 
 -- when the k-th load or store back from the i-th instruction is retired
 abbrev pub access_ago : (ℕ → Timed) → ℕ → ℕ → ℕ
