@@ -1,5 +1,5 @@
 -- How the stages of an answer fit together.
-use Rattle.std.proofs.Common.{◌≡◌, ◌<◌, ◌≤◌, ℕ, List, [], Bool, true, None, Result, Ok, Err, IfOk, length, slice_index, zero, suc, refl, sym, ap, ◌∙◌, arith, inl, inr, eq-eqb}
+use Rattle.std.proofs.Common.{◌≡◌, ◌<◌, ◌≤◌, ℕ, List, [], Bool, None, Result, Ok, Err, IfOk, length, slice_index, zero, suc, refl, sym, ap, ◌∙◌, arith, inl, inr, eq-eqb}
 use Rattle.std.proofs.lemmas.Bool.{cases_lt, cases_eq, ne_eqb, lt-ltb, le-ltb}
 use Rattle.confidence.specs.declared.answer.Answer.TheVariants.{Cycles}
 use Rattle.confidence.specs.declared.verdict.Test.{Test}
@@ -9,16 +9,15 @@ use Rattle.ordered_fold.specs.declared.front.Front.{Front}
 use Rattle.ordered_fold.specs.Front.{front_of}
 use Rattle.rv_exec.specs.Machine.{State}
 use Rattle.rv_machine.specs.declared.outcome.Outcome.{Outcome}
-use Rattle.rv_machine.specs.Machine.{Machine, machine_after, started}
-use Rattle.rv_machine.specs.Running.{outcome_of, output_after}
+use Rattle.rv_machine.specs.Machine.{Machine, started}
+use Rattle.rv_machine.specs.Running.{outcome_of}
 use Rattle.rv_machine.specs.Start.{start_of}
 use Rattle.sample_design.specs.declared.design.Design.{Design}
 use Rattle.sample_design.specs.Order.{order_of}
 use Rattle.sample_design.specs.declared.units.UnitsFault.TheVariants.{NoUnits, TooMany}
 use Rattle.sample_design.specs.Units.{judged, sampled_unit, unit_count, units_of}
 use Rattle.smarts_text.specs.Report.{report_of}
-use Rattle.smarts_text.specs.Texts.{exit_line}
-use Rattle.turbosmarts.specs.Answer.{Exit, image_or_fault, exit_or_fault, units_or_fault, report_on, sample_of, run_of}
+use Rattle.turbosmarts.specs.Answer.{Exit, image_or_fault, exit_or_fault, units_or_fault, report_on, sample_of}
 use Rattle.turbosmarts.specs.Units.{whole_answer, unit_answers}
 use Rattle.turbosmarts.specs.Visits.{visited}
 use Rattle.turbosmarts.proofs.Folds.{visited_is, ending_whole}

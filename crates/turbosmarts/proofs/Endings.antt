@@ -1,7 +1,7 @@
 -- An end of a call as the answer to its words.
 use Rattle.std.proofs.Common.{◌≡◌, ◌<◌, ℕ, List, [], length, take, Option, Some, None, IfSome, Result, Ok, Err, refl, sym, ap, subst}
 use mathlib.Core.Path.{fun_ext}
-use Rattle.smarts_io.specs.Bytes.{Gives, Takes}
+use Rattle.smarts_io.specs.Bytes.{Takes}
 use Rattle.smarts_io.proofs.Pieces.{takes_none}
 use Rattle.smarts_text.specs.declared.command.Command.{Command}
 use Rattle.smarts_text.specs.declared.command.Command.TheVariants.{Sample, Demo, Run}

@@ -1,14 +1,9 @@
 -- The latest marks of a run.
-use Rattle.std.proofs.Common.{◌≡◌, ◌<◌, ◌≤◌, ◌+◌, ◌-◌, ◌++◌, ℕ, List, [], ◌∷◌, Bool, true, Option, Some, None, length, drop, refl, sym, ap, ◌∙◌, arith}
-use Rattle.std.specs.Prelude.{All, nat_lt, if◌then◌else◌, slice_get, option_copied}
-use Rattle.std.specs.Option.{IsSome}
-use denote.Ref.{Bor}
-use Rattle.std.proofs.lemmas.Bool.{lt-ltb}
+use Rattle.std.proofs.Common.{◌≡◌, ◌≤◌, ◌+◌, ◌-◌, ◌++◌, ℕ, List, [], ◌∷◌, Bool, true, length, drop, refl, sym, ap, ◌∙◌, arith}
 use Rattle.std.proofs.lemmas.List.{drop-drop, drop-append-le, length-drop, length-append}
 use Rattle.std.proofs.Math.Seq.{drop-nil}
 use Rattle.std.proofs.lemmas.List.Elements.{All-append, All-cons, All-drop, All-nil}
 use Rattle.circular_buffer.specs.Buffer.{keep_last}
-use Rattle.circular_buffer.proofs.Places.{slice_get-drop, slice_get-some}
 use Rattle.hierarchy.specs.declared.config.Config.{Config}
 use Rattle.hierarchy.specs.declared.marked.Marked.{Marked}
 use Rattle.hierarchy.specs.declared.state.State.{State}
@@ -16,7 +11,7 @@ use Rattle.hierarchy.specs.declared.widths.Widths.{Widths}
 use Rattle.hierarchy.specs.Marked.{IsMarked}
 use Rattle.hierarchy.specs.Marking.{mark_of}
 use Rattle.hierarchy.specs.References.{warmed}
-use Rattle.hierarchy.specs.Runs.{after_events, marks}
+use Rattle.hierarchy.specs.Runs.{marks}
 use Rattle.hierarchy.proofs.RunParts.{length-marks}
 use Rattle.hierarchy.proofs.Traces.{marks_more}
 use Rattle.hierarchy.proofs.Warms.{feeding}

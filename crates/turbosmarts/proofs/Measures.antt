@@ -1,10 +1,9 @@
 -- Measuring the units of a run, one after the other.
-use Rattle.std.proofs.Common.{◌≡◌, ◌<◌, ◌≤◌, ◌+◌, ◌*◌, ◌++◌, ℕ, List, [], ◌∷◌, None, length, sym, ap, ◌∙◌, arith, inl, inr, add-one, eq-eqb}
+use Rattle.std.proofs.Common.{◌≡◌, ◌<◌, ◌≤◌, ◌+◌, ◌*◌, ◌++◌, ℕ, List, [], ◌∷◌, length, sym, ap, ◌∙◌, arith, inl, inr, add-one, eq-eqb}
 use Rattle.std.proofs.Math.Nat.{mul-le-mul_left, mul-le-mul_right, mul-suc, suc-mul}
 use Rattle.std.proofs.lemmas.Bool.{cases_lt, cases_eq, ne_eqb}
 use Rattle.std.proofs.lemmas.List.{length-append, get_or_append_left}
 use Rattle.std.proofs.Math.Seq.{get_or-append_seam}
-use Rattle.confidence.specs.declared.answer.Answer.{Answer}
 use Rattle.confidence.specs.declared.answer.Answer.TheVariants.{Cycles}
 use Rattle.confidence.specs.Sums.{IsCycles}
 use Rattle.hierarchy.specs.declared.config.Config.{Config}

@@ -1,5 +1,5 @@
 -- The latencies of the instructions since a unit began.
-use Rattle.std.proofs.Common.{◌≡◌, ◌<◌, ◌≤◌, ◌+◌, ◌-◌, ◌*◌, ◌%◌, ◌^◌, ◌++◌, ℕ, zero, suc, List, [], ◌∷◌, Bool, false, length, drop, sum_by, refl, sym, ap, ◌∙◌, subst, arith, zero-add}
+use Rattle.std.proofs.Common.{◌≡◌, ◌≤◌, ◌+◌, ◌%◌, ◌^◌, ◌++◌, ℕ, zero, suc, List, [], ◌∷◌, Bool, false, length, drop, sum_by, refl, sym, ap, ◌∙◌, arith, zero-add}
 use Rattle.std.proofs.Math.Nat.{mod-eq_of_lt, mod-add-mod}
 use Rattle.std.proofs.lemmas.List.{drop-drop, drop-append-le, length-append}
 use Rattle.std.proofs.lemmas.List.Sums.{sum_by-append, sum_by-cons}
@@ -18,8 +18,8 @@ use Rattle.ruu_timing.specs.Scalar.{scalar_latency, scalar_cycles}
 use Rattle.rv_exec.specs.declared.event.Event.{Event}
 use Rattle.sample_design.specs.declared.units.Window.{Window}
 use Rattle.turbosmarts.specs.Processors.{HasSummed, latencies_since}
-use Rattle.turbosmarts.specs.Shown.{marks_of, window_cycles, IsAtEnd, IsTimeable, CanTell}
-use Rattle.turbosmarts.specs.Units.{cycles_by, cycles_of}
+use Rattle.turbosmarts.specs.Shown.{marks_of, window_cycles, IsAtEnd, IsTimeable}
+use Rattle.turbosmarts.specs.Units.{cycles_by}
 
 -- marking an instruction leaves its class
 classes_kept :

@@ -1,11 +1,10 @@
 -- The cycles of a window, from what was shown of the run up to its end.
-use Rattle.std.proofs.Common.{◌≡◌, ◌<◌, ◌≤◌, ◌+◌, ◌-◌, ◌*◌, ℕ, List, [], ◌∷◌, None, Ok, length, drop, refl, sym, ap, ◌∙◌, subst, arith}
+use Rattle.std.proofs.Common.{◌≡◌, ◌≤◌, ◌+◌, ◌-◌, ◌*◌, ℕ, List, [], None, Ok, drop, refl, sym, ap, ◌∙◌, arith}
 use Rattle.confidence.specs.declared.answer.Answer.TheVariants.{Cycles}
 use Rattle.hierarchy.specs.declared.config.Config.{Config}
-use Rattle.hierarchy.specs.declared.marked.Marked.{Marked}
 use Rattle.hierarchy.specs.declared.state.State as hierarchy
 use Rattle.hierarchy.specs.References.{warmed}
-use Rattle.hierarchy.specs.Runs.{Run, run_of, after_events, trace, unless_halted}
+use Rattle.hierarchy.specs.Runs.{run_of, trace}
 use Rattle.hierarchy.proofs.RunParts.{runs_whole}
 use Rattle.hierarchy.proofs.Traces.{traces_split}
 use Rattle.hierarchy.proofs.Warms.{feeding}

@@ -1,5 +1,5 @@
 -- What processors keep of a run that they are shown.
-use Rattle.std.specs.Prelude.{◌≡◌, ◌≤◌, ◌%◌, ◌^◌, ℕ, List, Bool, true, false, drop, length, sum_by, All}
+use Rattle.std.specs.Prelude.{◌≡◌, ◌≤◌, ◌%◌, ◌^◌, ℕ, List, true, false, drop, length, sum_by, All}
 use Rattle.circular_buffer.specs.Buffer.{keep_last}
 use Rattle.hierarchy.specs.declared.config.Config.{Config}
 use Rattle.hierarchy.specs.declared.marked.Marked.{Marked}

@@ -1,4 +1,3 @@
-use Rattle.std.proofs.Common.{ap, refl}
 use Rattle.turbosmarts.proofs.Latest.{marked_none}
 use Rattle.turbosmarts.proofs.out_of_order.OutOfOrder.new.Goals as goal
 

@@ -1,4 +1,3 @@
-use Rattle.std.proofs.Common.{arith}
 use Rattle.turbosmarts.proofs.Latest.{has_window, marked_told}
 use Rattle.turbosmarts.proofs.out_of_order.OutOfOrderProcessor.cycles.Goals as goal
 
