@@ -1,5 +1,5 @@
 -- The processor that accepted words ask for.
-use Rattle.std.specs.Prelude.{ℕ, List, Option, option_and_then}
+use Rattle.std.specs.Prelude.{ℕ, List, option_and_then}
 use Rattle.std.specs.Option.{unwrap_or}
 use Rattle.std.specs.Result.{result_ok}
 use Rattle.hierarchy.specs.declared.config.Config.{Config}
