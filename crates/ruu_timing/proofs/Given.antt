@@ -1,5 +1,5 @@
 -- The cycle that an instruction is given is the one in which it issues, and the counts follow.
-use Rattle.std.proofs.Common.{Bool, arith, cond, false, get_or, inl, inr, min, refl, subst, suc, sym, true, ℕ, ◌≡◌, ◌+◌, ◌-◌, ◌<◌, ◌≤◌, ◌==◌, ◌∙◌}
+use Rattle.std.proofs.Common.{Bool, arith, cond, false, get_or, inl, inr, min, refl, subst, suc, sym, true, ℕ, ◌≡◌, ◌+◌, ◌-◌, ◌<◌, ◌==◌, ◌∙◌}
 use Rattle.std.proofs.lemmas.Bool.{and_parts, cases_eq, cases_lt, eq-eqb, false≢true, ltb-true, ne_eqb}
 use Rattle.std.proofs.lemmas.List.{get_or-set_other, get_or-set_same, length-set}
 use Rattle.hierarchy.specs.Widths.{AreWidths}
@@ -14,6 +14,7 @@ use Rattle.ruu_timing.specs.Schedule.{has_place}
 use Rattle.ruu_timing.specs.Times.{issues_alike}
 use Rattle.ruu_timing.specs.declared.issue.Issued.{Issued}
 use Rattle.ruu_timing.specs.declared.timed.Timed.{Timed}
+use Rattle.ruu_timing.proofs.Slots.{limit_range}
 
 number_small : (class : Class) → number_of class < 7
 number_small Alu = omega arith
@@ -33,15 +34,6 @@ no_counts Load = refl
 no_counts Store = refl
 no_counts Control = refl
 no_counts Ecall = refl
-
-limit_small : (w : Widths) (class : Class) → AreWidths w → limit_of w class ≤ 8
-limit_small w Alu widths = omega (arith, widths.alus.1)
-limit_small w Mul widths = omega (arith, widths.muls.1)
-limit_small w Div widths = omega (arith, widths.divs.1)
-limit_small w Load widths = omega (arith, widths.loads.1)
-limit_small w Store widths = omega (arith, widths.stores.1)
-limit_small w Control widths = omega (arith, widths.branches.1)
-limit_small w Ecall widths = omega arith
 
 -- there is one first
 first_same : (test : ℕ → Bool) (ready t u : ℕ) → IsFirst test ready t → IsFirst test ready u → t ≡ u
@@ -95,7 +87,7 @@ counts_one w x t i issued widths counts room now =
     let few : issued.all < w.issue = ltb-true issued.all w.issue parts.0 in
     let few_alike : get_or issued.alike m 0 < limit_of w (x i).mark.class = ltb-true (get_or issued.alike m 0) (limit_of w (x i).mark.class) parts.1 in
     let all_small : min (issued.all + 1) 255 ≡ issued.all + 1 = omega (arith, widths.issue.1) in
-    let alike_small : min (get_or issued.alike m 0 + 1) 255 ≡ get_or issued.alike m 0 + 1 = omega (arith, limit_small w (x i).mark.class widths) in
+    let alike_small : min (get_or issued.alike m 0 + 1) 255 ≡ get_or issued.alike m 0 + 1 = omega (arith, (limit_range w (x i).mark.class widths).1) in
     record {
       all = rw (eq-eqb (x i).issue t now, all_small) (omega (arith, counts.all));
       alike = λ class.

@@ -12,7 +12,7 @@ use Rattle.ruu_timing.specs.Times.{issues_alike}
 use Rattle.ruu_timing.specs.declared.timed.Timed.{Timed}
 use Rattle.ruu_timing.proofs.Awaited.{awaited_le, writer_le}
 use Rattle.ruu_timing.proofs.Rising.{in_order}
-use Rattle.ruu_timing.proofs.Slots.{limit_positive}
+use Rattle.ruu_timing.proofs.Slots.{limit_range}
 
 -- in a cycle behind all their issues none of them issues, whatever else is asked of them
 pub none_issue :
@@ -29,7 +29,7 @@ unfolding has_place
 free_place w x i t widths early =
     let class : Class = (x i).mark.class in
     let wide : nat_lt 0 w.issue ≡ true = lt-ltb 0 w.issue (omega (arith, widths.issue.0)) in
-    let limited : nat_lt 0 (limit_of w class) ≡ true = lt-ltb 0 (limit_of w class) (limit_positive w class widths) in
+    let limited : nat_lt 0 (limit_of w class) ≡ true = lt-ltb 0 (limit_of w class) (limit_range w class widths).0 in
     rw (
       none_issue x (λ y. y.issue == t) t i (λ j other. other) early,
       none_issue x (λ y. issues_alike class t y) t i (λ j other. rw other refl) early,

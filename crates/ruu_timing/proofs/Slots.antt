@@ -26,14 +26,15 @@ not_alike class t last le (x ∷ xs) each =
     let e : (x.issue == t) ≡ false = ne_eqb x.issue t (λ e. let h : x.issue < last = each.0.issue in omega arith) in
     (rw e refl, not_alike class t last le xs each.1)
 
-pub limit_positive : (w : Widths) (class : Class) → AreWidths w → 0 < limit_of w class
-limit_positive w Alu widths = omega (arith, widths.alus.0)
-limit_positive w Mul widths = omega (arith, widths.muls.0)
-limit_positive w Div widths = omega (arith, widths.divs.0)
-limit_positive w Load widths = omega (arith, widths.loads.0)
-limit_positive w Store widths = omega (arith, widths.stores.0)
-limit_positive w Control widths = omega (arith, widths.branches.0)
-limit_positive w Ecall widths = omega arith
+-- at least one of a class may issue, and few
+pub limit_range : (w : Widths) (class : Class) → AreWidths w → (0 < limit_of w class) × (limit_of w class ≤ 8)
+limit_range w Alu widths = (omega (arith, widths.alus.0), widths.alus.1)
+limit_range w Mul widths = (omega (arith, widths.muls.0), widths.muls.1)
+limit_range w Div widths = (omega (arith, widths.divs.0), widths.divs.1)
+limit_range w Load widths = (omega (arith, widths.loads.0), widths.loads.1)
+limit_range w Store widths = (omega (arith, widths.stores.0), widths.stores.1)
+limit_range w Control widths = (omega (arith, widths.branches.0), widths.branches.1)
+limit_range w Ecall widths = (omega arith, omega arith)
 
 pub free_slot :
     (w : Widths) (earlier : List Timed) (class : Class) (t : ℕ) → AreWidths w → AreTimed earlier → last_of earlier ≤ t
@@ -45,7 +46,7 @@ free_slot w earlier class t widths timed le =
     let alike : filter (λ x. issues_alike class t x) earlier ≡ [] =
     filter_none (issues_alike class t) earlier (not_alike class t (last_of earlier) le earlier timed.each) in
     let wide : nat_lt 0 w.issue ≡ true = lt-ltb 0 w.issue (omega (arith, widths.issue.0)) in
-    let limited : nat_lt 0 (limit_of w class) ≡ true = lt-ltb 0 (limit_of w class) (limit_positive w class widths) in
+    let limited : nat_lt 0 (limit_of w class) ≡ true = lt-ltb 0 (limit_of w class) (limit_range w class widths).0 in
     rw (none, alike) (rw (wide, limited) refl)
 
 -- the test of `issue_of`, and the cycle by which it holds
