@@ -1,5 +1,5 @@
 -- What each instruction is to do, in terms of the pc and the registers.
-use Rattle.std.specs.Prelude.{ℕ, ◌*◌, ◌/◌, List, Option, Some, None, Bool, true, false, not, ◌&&◌, ◌||◌, ◌==◌, nat_lt, bit_and, bit_or, bit_xor}
+use Rattle.std.specs.Prelude.{ℕ, ◌*◌, ◌/◌, List, Bool, true, false, not, ◌&&◌, ◌||◌, ◌==◌, nat_lt, bit_and, bit_or, bit_xor}
 use Rattle.rv_isa.specs.declared.inst.Inst.{Inst}
 use Rattle.rv_isa.specs.declared.inst.Inst.TheVariants.{Lui, Auipc, Jal, Jalr, Beq, Bne, Blt, Bge, Bltu, Bgeu, Lb, Lh, Lw, Lbu, Lhu, Sb, Sh, Sw, Addi, Slti, Sltiu, Xori, Ori, Andi, Slli, Srli, Srai, Add, Sub, Sll, Slt, Sltu, Xor, Srl, Sra, Or, And, Mul, Mulh, Mulhsu, Mulhu, Div, Divu, Rem, Remu, Fence, FenceI, Ecall, Ebreak}
 use Rattle.rv_exec.specs.declared.action.Action.{Action}
@@ -79,8 +79,3 @@ action_of pc regs (Fence rest) = Pass
 action_of pc regs (FenceI rest) = Pass
 action_of pc regs Ecall = Call
 action_of pc regs Ebreak = Break
-
--- the register that an action computes, and its value, where that is all it does
-abbrev pub computed_by : Action → Option (ℕ × ℕ)
-computed_by (Compute rd value) = Some (rd, value)
-computed_by other = None
