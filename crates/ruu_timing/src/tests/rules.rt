@@ -9,7 +9,7 @@ use std::test::Fail;
 type Case = (Widths, &'static [Marked], usize, [u64; 5], u64);
 
 /// Each rule of fetch.
-const FETCH: [Case; 7] = [
+const FETCH: [Case; 6] = [
     // Fetch width.
     (
         Widths { fetch: 1, ..WIDTHS },
@@ -48,8 +48,6 @@ const FETCH: [Case; 7] = [
     ),
     // Fetch waits for the retirement of an ECALL.
     (WIDTHS, &[CALL, ALU], 0, [5, 6, 7, 8, 9], 9),
-    // An ECALL waits for the retirement of all before.
-    (WIDTHS, &[DIV, CALL], 0, [0, 23, 24, 25, 26], 26),
     // Fetch queue.
     (
         Widths {
@@ -73,7 +71,7 @@ const FETCH: [Case; 7] = [
 ];
 
 /// Each rule of dispatch.
-const DISPATCH: [Case; 5] = [
+const DISPATCH: [Case; 6] = [
     // Dispatch width.
     (
         Widths {
@@ -96,6 +94,8 @@ const DISPATCH: [Case; 5] = [
         [1, 3, 4, 5, 6],
         6,
     ),
+    // An ECALL waits for the retirement of all before.
+    (WIDTHS, &[DIV, CALL], 0, [0, 23, 24, 25, 26], 26),
     // Register update unit.
     (
         Widths {
