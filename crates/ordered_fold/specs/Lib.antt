@@ -1,3 +1,7 @@
 pub mod Ending
 pub mod Front
 pub mod Laws
+pub mod Batch
+pub mod Cell
+pub mod Machine
+pub mod Invariant

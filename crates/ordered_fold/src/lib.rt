@@ -3,12 +3,16 @@
 #![tactic(auto)]
 
 mod ending;
+mod event;
 mod front;
 mod laws;
+mod seat;
 
 pub use ending::Ending;
+pub use event::{Act, CoreEvent};
 pub use front::Front;
 pub use laws::fold_laws;
+pub use seat::Seat;
 
 #[cfg(test)]
 mod tests;

@@ -12,7 +12,9 @@ pub struct InputSource<R: Read> {
 
 impl<R: Read> InputSource<R> {
     /// A source that reads from there.
-    pub fn new(input: R) -> InputSource<R> {
+    pub fn new(input: R) -> InputSource<R>
+        ensures none { result.faults ≡ 0 }
+    {
         InputSource { input, faults: 0 }
     }
 }
@@ -42,7 +44,9 @@ pub struct OutputSink<W: Write> {
 
 impl<W: Write> OutputSink<W> {
     /// A sink that writes there.
-    pub fn new(output: W) -> OutputSink<W> {
+    pub fn new(output: W) -> OutputSink<W>
+        ensures none { result.faults ≡ 0 }
+    {
         OutputSink { output, faults: 0 }
     }
 }
