@@ -39,7 +39,7 @@ front_of-pushed total test answers front a e going =
 folded-ended : (front : Front) (a : Answer) → is_going front.ending ≡ false → folded front a ≡ front
 folded-ended front a ended = rw ended refl
 
-fold-ended :
+pub fold-ended :
     (front : Front) (answers : List Answer) → is_going front.ending ≡ false
     → fold folded front answers ≡ front
 fold-ended front [] ended = refl

@@ -1,3 +1,5 @@
 pub mod Endings
 pub mod Folds
 pub mod Fronts
+pub mod BatchLemmas
+pub mod CellLemmas
