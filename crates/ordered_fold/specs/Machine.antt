@@ -155,8 +155,8 @@ joined_of seat other = record seat {
 abbrev pub after_join : ℕ → ℕ → Seat → Core → Core
 after_join j from seat core =
     let other = seat_at core.seats from in
-    let without = slice_set core.seats from (record other { live = false }) in
-    record core { seats = slice_set without j (joined_of seat other) }
+    let both = slice_set core.seats j (joined_of seat other) in
+    record core { seats = slice_set both from (record other { live = false }) }
 
 -- what an act of this seat, numbered j, leaves; one that isn't enabled changes nothing
 abbrev pub acted : Front → List Answer → ℕ → Seat → Core → Act → Core
