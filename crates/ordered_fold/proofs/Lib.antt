@@ -6,3 +6,4 @@ pub mod CellLemmas
 pub mod MachineLemmas
 pub mod SeatLemmas
 pub mod EventLemmas
+pub mod FrontLemmas
