@@ -1,23 +1,19 @@
 -- Events that change words, cells or the front keep the invariant.
-use Rattle.std.proofs.Common.{◌≡◌, ◌≢◌, ◌⊎◌, ◌+◌, ◌-◌, ◌*◌, ◌%◌, ◌<◌, ◌≤◌, ℕ, Bool, true, false, not, ◌&&◌, ◌||◌, cond, Option, Some, None, List, length, get_or, set, inl, inr, refl, arith, sym, ap, subst, ◌∙◌, length-set}
+use Rattle.std.proofs.Common.{◌≡◌, ◌≢◌, ◌⊎◌, ◌+◌, ◌<◌, ◌≤◌, ℕ, true, false, Some, None, List, length, get_or, set, inl, inr, refl, arith, sym, ap, subst, ◌∙◌, length-set}
 use Rattle.std.proofs.Math.Arith.{lt_of_le-ne}
-use Rattle.std.specs.List.{slice_get, count_by}
-use Rattle.std.proofs.lemmas.Bool.{and_parts, cases_eq, cases_lt, cases_Bool, lt-ltb, le-ltb}
+use Rattle.std.specs.List.{slice_get}
+use Rattle.std.proofs.lemmas.Bool.{cases_eq, cases_lt, lt-ltb, le-ltb}
 use Rattle.std.proofs.lemmas.List.{get_or-set_same, get_or-set_other}
-use Rattle.std.proofs.lemmas.Option.{slice_get_within, slice_get-get_or}
+use Rattle.std.proofs.lemmas.Option.{slice_get-get_or}
 use Rattle.confidence.specs.declared.answer.Answer.{Answer}
-use Rattle.confidence.specs.declared.answer.Answer.TheVariants.{Cycles, Fault}
-use Rattle.ordered_fold.specs.declared.ending.Ending.TheVariants.{Going}
+use Rattle.confidence.specs.declared.answer.Answer.TheVariants.{Cycles}
 use Rattle.ordered_fold.specs.declared.front.Front.{Front}
 use Rattle.ordered_fold.specs.declared.seat.Seat.{Seat}
-use Rattle.ordered_fold.specs.Front.{is_going, pushed, folded}
-use Rattle.ordered_fold.specs.Cell.{code, answer_of}
-use Rattle.ordered_fold.specs.Batch.{fold_from, pushed_number, folded_number, count_before_end, IsHeldAnswer, IsBatch}
-use Rattle.ordered_fold.specs.Machine.{Core, seat_at, cell_at, code_or_zero, drawing, after_claim, after_report, after_release}
+use Rattle.ordered_fold.specs.Batch.{IsBatch}
+use Rattle.ordered_fold.specs.Machine.{Core, seat_at, cell_at, code_or_zero, after_claim, after_report}
 use Rattle.ordered_fold.specs.Invariant.{HasHand, HasLast, IsSeat, IsCore, is_done}
 use Rattle.ordered_fold.proofs.Fronts.{not_both}
-use Rattle.ordered_fold.proofs.BatchLemmas.{going_of, fold_from-more, whole_fold, prefix_of, pushed_number-pushed}
-use Rattle.ordered_fold.proofs.CellLemmas.{code-some, answer_of-code}
+use Rattle.ordered_fold.proofs.CellLemmas.{code-some}
 use Rattle.ordered_fold.proofs.MachineLemmas.{IsIdle, live_within, every_seat, some_seat, this_seat, had_before, was_before, still_one, only_one, no_hand, done_rises, done_rises_by_one, some_is, not_some}
 
 -- a seat of whom this holds, beside a greater claim

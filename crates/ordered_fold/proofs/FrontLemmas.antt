@@ -1,17 +1,16 @@
 -- Events of the lock, of the front and of the stop word keep the invariant.
-use Rattle.std.proofs.Common.{◌≡◌, ◌≢◌, ◌⊎◌, ◌+◌, ◌-◌, ◌*◌, ◌%◌, ◌<◌, ◌≤◌, ℕ, Bool, true, false, not, ◌&&◌, cond, Option, Some, None, List, length, get_or, set, suc, inl, inr, refl, arith, sym, ap, subst, ◌∙◌}
+use Rattle.std.proofs.Common.{◌≡◌, ◌≢◌, ◌⊎◌, ◌+◌, ◌-◌, ◌*◌, ◌%◌, ◌<◌, ◌≤◌, ℕ, true, false, List, length, get_or, set, suc, inl, inr, refl, arith, sym, ap, subst, ◌∙◌}
 use Rattle.std.proofs.Math.Arith.{lt_of_le-ne}
-use Rattle.std.specs.List.{slice_get}
 use Rattle.std.proofs.lemmas.Bool.{cases_eq, cases_lt, cases_Bool}
 use Rattle.std.proofs.lemmas.Option.{slice_get-get_or}
 use Rattle.confidence.specs.declared.answer.Answer.{Answer}
-use Rattle.confidence.specs.declared.answer.Answer.TheVariants.{Cycles, Fault}
+use Rattle.confidence.specs.declared.answer.Answer.TheVariants.{Cycles}
 use Rattle.ordered_fold.specs.declared.ending.Ending.TheVariants.{Going}
 use Rattle.ordered_fold.specs.declared.front.Front.{Front}
 use Rattle.ordered_fold.specs.declared.seat.Seat.{Seat}
 use Rattle.ordered_fold.specs.Front.{is_going, pushed, folded}
 use Rattle.ordered_fold.specs.Cell.{code, answer_of}
-use Rattle.ordered_fold.specs.Batch.{fold_from, uncounted, pushed_number, folded_number, count_before_end, IsHeldAnswer, IsBatch}
+use Rattle.ordered_fold.specs.Batch.{fold_from, uncounted, pushed_number, folded_number, count_before_end, IsBatch}
 use Rattle.ordered_fold.specs.Machine.{Core, seat_at, cell_at, code_or_zero, after_announce, after_release}
 use Rattle.ordered_fold.specs.Invariant.{HasHand, HasLast, IsSeat, IsCore}
 use Rattle.ordered_fold.proofs.Fronts.{not_both}
@@ -249,34 +248,36 @@ folded_within start answers core batch is = by_order (cases_lt (length answers) 
         subst (λ f. pushed_number f ≤ start.sums.n + length answers) (sym whole) prefix.most in
         omega (arith, most)
 
--- the next cell in order holds the next answer, where it is full
-pub keeps_push :
-    (start : Front) (answers : List Answer) (core : Core) (j : ℕ) → IsBatch start answers
-    → IsCore start answers core → (seat_at core.seats j).holder ≡ true
-    → is_going core.front.ending ≡ true
+-- a glance at a full cell folds the next answer
+pub record FoldsNext (start : Front) (answers : List Answer) (core : Core) (new : Front) : Type 0 where
+  pub below : folded_number start core.front < length answers
+  pub full : cell_at core.cells (folded_number start core.front) ≢ 0
+  pub number : folded_number start new ≡ folded_number start core.front + 1
+  pub next : new ≡ fold_from start answers (folded_number start core.front + 1)
+
+-- what a glance finds
+abbrev pub glanced_of : Front → Core → Front
+glanced_of start core = pushed core.front (answer_of (cell_at core.cells (core.front.sums.n - start.sums.n)))
+
+pub folds_next :
+    (start : Front) (answers : List Answer) (core : Core) → IsBatch start answers
+    → IsCore start answers core → is_going core.front.ending ≡ true
     → core.front.sums.n < start.sums.n + length answers
     → cell_at core.cells (core.front.sums.n - start.sums.n) ≢ 0
-    → IsCore start answers (record core { front = pushed core.front (answer_of (cell_at core.cells (core.front.sums.n - start.sums.n))) })
-keeps_push start answers core j batch is holds goes more some = record {
-  wide = is.wide;
-  code = is.code;
-  drawn = is.drawn;
-  empty = is.empty;
-  one_hand = is.one_hand;
-  latest = is.latest;
-  each = is.each;
-  held = is.held;
-  one_holder = is.one_holder;
-  front = next ∙ ap (fold_from start answers) (sym number);
-  full = λ k below. full k (omega (arith, below, number)) (cases_eq k m);
-  even = λ e. absurd (omega (arith, odd, e));
-  odd = λ o. omega (arith, is.odd odd, number);
-  stop = by_stop is.stop;
-  bound = is.bound;
+    → FoldsNext start answers core (glanced_of start core)
+folds_next start answers core batch is goes more some = record {
+  below = below;
+  full = full;
+  number = number;
+  next = pushes
+      ∙ sym (rw next at (fold_from-more start answers m below) ∙ ap (λ f. folded f answer) (sym is.front) ∙ rw goes refl);
 }
   where
     m : ℕ
     m = folded_number start core.front
+
+    next : suc m ≡ m + 1
+    next = omega arith
 
     going : core.front.ending ≡ Going
     going = going_of core.front.ending goes
@@ -293,34 +294,57 @@ keeps_push start answers core j batch is holds goes more some = record {
     answer : Answer
     answer = get_or answers m (Cycles 0)
 
-    held : IsHeldAnswer answer
-    held = batch.held m (Cycles 0) below
-
-    full_m : cell_at core.cells m ≢ 0
-    full_m none = some (rw place none)
+    full : cell_at core.cells m ≢ 0
+    full none = some (rw place none)
 
     word : cell_at core.cells (core.front.sums.n - start.sums.n) ≡ code answer
-    word = rw place ((is.code m full_m).1 ∙ ap code_or_zero (slice_get-get_or answers m (Cycles 0) below))
+    word = rw place ((is.code m full).1 ∙ ap code_or_zero (slice_get-get_or answers m (Cycles 0) below))
 
-    new : Front
-    new = pushed core.front (answer_of (cell_at core.cells (core.front.sums.n - start.sums.n)))
+    pushes : glanced_of start core ≡ pushed core.front answer
+    pushes =
+        ap (pushed core.front)
+        (ap answer_of word ∙ answer_of-code answer (batch.held m (Cycles 0) below))
 
-    pushes : new ≡ pushed core.front answer
-    pushes = ap (pushed core.front) (ap answer_of word ∙ answer_of-code answer held)
-
-    number : folded_number start new ≡ suc m
+    number : folded_number start (glanced_of start core) ≡ m + 1
     number =
-        let one : pushed_number new ≡ pushed_number core.front + 1 =
+        let one : pushed_number (glanced_of start core) ≡ pushed_number core.front + 1 =
         ap pushed_number pushes ∙ pushed_number-pushed core.front answer going in
         let least : start.sums.n ≤ pushed_number core.front = omega (arith, counted) in
         omega (arith, one, least)
 
-    next : new ≡ fold_from start answers (suc m)
-    next =
-        pushes ∙ sym (fold_from-more start answers m below ∙ ap (λ f. folded f answer) (sym is.front) ∙ rw goes refl)
+pub keeps_push :
+    (start : Front) (answers : List Answer) (core : Core) (j : ℕ) → IsBatch start answers
+    → IsCore start answers core → (seat_at core.seats j).holder ≡ true
+    → is_going core.front.ending ≡ true
+    → core.front.sums.n < start.sums.n + length answers
+    → cell_at core.cells (core.front.sums.n - start.sums.n) ≢ 0
+    → IsCore start answers (record core { front = glanced_of start core })
+keeps_push start answers core j batch is holds goes more some = record {
+  wide = is.wide;
+  code = is.code;
+  drawn = is.drawn;
+  empty = is.empty;
+  one_hand = is.one_hand;
+  latest = is.latest;
+  each = is.each;
+  held = is.held;
+  one_holder = is.one_holder;
+  front = folds.next ∙ ap (fold_from start answers) (sym folds.number);
+  full = λ k below. full k (omega (arith, below, folds.number)) (cases_eq k (folded_number start core.front));
+  even = λ e. absurd (omega (arith, odd, e));
+  odd = λ o. omega (arith, is.odd odd, folds.number);
+  stop = by_stop is.stop;
+  bound = is.bound;
+}
+  where
+    folds : FoldsNext start answers core (glanced_of start core)
+    folds = folds_next start answers core batch is goes more some
 
-    full : (k : ℕ) → k < suc m → (k ≡ m) ⊎ (k ≢ m) → cell_at core.cells k ≢ 0
-    full k least (inl e) = subst (λ i. cell_at core.cells i ≢ 0) (sym e) full_m
+    full :
+        (k : ℕ) → k < folded_number start core.front + 1
+        → (k ≡ folded_number start core.front) ⊎ (k ≢ folded_number start core.front)
+        → cell_at core.cells k ≢ 0
+    full k least (inl e) = subst (λ i. cell_at core.cells i ≢ 0) (sym e) folds.full
     full k least (inr differ) = is.full k (lt_of_le-ne (omega (arith, least)) differ)
 
     odd : core.lock % 2 ≡ 1
@@ -328,6 +352,6 @@ keeps_push start answers core j batch is holds goes more some = record {
 
     by_stop :
         (core.stop ≡ 0) ⊎ ((core.stop ≡ count_before_end start answers + 1) × (is_going core.front.ending ≡ false))
-        → (core.stop ≡ 0) ⊎ ((core.stop ≡ count_before_end start answers + 1) × (is_going new.ending ≡ false))
+        → (core.stop ≡ 0) ⊎ ((core.stop ≡ count_before_end start answers + 1) × (is_going (glanced_of start core).ending ≡ false))
     by_stop (inl none) = inl none
     by_stop (inr (told, over)) = absurd (not_both (is_going core.front.ending) goes over)

@@ -7,3 +7,4 @@ pub mod MachineLemmas
 pub mod SeatLemmas
 pub mod EventLemmas
 pub mod FrontLemmas
+pub mod RunLemmas

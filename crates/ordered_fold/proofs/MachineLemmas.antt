@@ -1,12 +1,12 @@
 -- Seats and cells of the machine: what one changed seat leaves of the others.
-use Rattle.std.proofs.Common.{◌≡◌, ◌≢◌, ◌⊎◌, ◌+◌, ◌<◌, ◌≤◌, ℕ, Bool, true, false, not, ◌&&◌, ◌||◌, cond, Option, Some, None, is_none, List, length, get_or, set, inl, inr, refl, arith, sym, ap, subst, ◌∙◌}
-use Rattle.std.specs.List.{count_by, sum_by}
+use Rattle.std.proofs.Common.{◌≡◌, ◌≢◌, ◌⊎◌, ◌+◌, ◌<◌, ◌≤◌, ℕ, Bool, true, false, not, ◌&&◌, cond, Option, Some, None, is_none, List, length, set, inl, inr, refl, arith, sym, ap, subst, ◌∙◌}
+use Rattle.std.specs.List.{count_by}
 use Rattle.std.proofs.lemmas.Bool.{and_parts, cases_eq, cases_lt}
 use Rattle.std.proofs.lemmas.List.{get_or-set_same, get_or-set_other, get_or_past}
 use Rattle.std.proofs.lemmas.List.Sums.{sum_by-set}
 use Rattle.ordered_fold.specs.declared.seat.Seat.{Seat}
 use Rattle.ordered_fold.specs.Machine.{unmade, seat_at, is_idle}
-use Rattle.ordered_fold.specs.Invariant.{HasHand, HasLast, is_done}
+use Rattle.ordered_fold.specs.Invariant.{HasHand, is_done}
 use Rattle.ordered_fold.proofs.Fronts.{not_both}
 
 -- a live seat is none beyond the last

@@ -1,13 +1,12 @@
 -- Events that change one seat alone keep the invariant.
-use Rattle.std.proofs.Common.{◌≡◌, ◌≢◌, ◌⊎◌, ◌+◌, ◌-◌, ◌*◌, ◌%◌, ◌<◌, ◌≤◌, ℕ, Bool, true, false, not, ◌&&◌, ◌||◌, cond, Option, Some, None, List, length, get_or, set, inl, inr, refl, arith, sym, ap, subst, ◌∙◌}
-use Rattle.std.specs.List.{slice_get, count_by}
+use Rattle.std.proofs.Common.{◌≡◌, ◌≢◌, ◌⊎◌, ◌+◌, ◌-◌, ◌<◌, ◌≤◌, ℕ, Bool, true, false, not, ◌&&◌, ◌||◌, Option, Some, None, List, length, set, inl, inr, refl, arith, sym, subst, ◌∙◌}
 use Rattle.std.proofs.lemmas.Bool.{and_parts, cases_eq, cases_lt, cases_Bool, lt-ltb, le-ltb}
 use Rattle.std.proofs.lemmas.List.{get_or-set_same, get_or-set_other}
 use Rattle.smarts_base.specs.Least.{or_else}
 use Rattle.confidence.specs.declared.answer.Answer.{Answer}
 use Rattle.ordered_fold.specs.declared.front.Front.{Front}
 use Rattle.ordered_fold.specs.declared.seat.Seat.{Seat}
-use Rattle.ordered_fold.specs.Machine.{Core, unmade, seat_at, is_idle, child_of, later, joined_of, after_look, after_split, after_join}
+use Rattle.ordered_fold.specs.Machine.{Core, unmade, seat_at, child_of, later, joined_of, after_split, after_join}
 use Rattle.ordered_fold.specs.Invariant.{HasHand, HasLast, IsSeat, IsCore, is_done}
 use Rattle.ordered_fold.proofs.Fronts.{not_both}
 use Rattle.ordered_fold.proofs.MachineLemmas.{IsIdle, live_within, every_seat, some_seat, was_before, still_one, no_hand, done_rises}

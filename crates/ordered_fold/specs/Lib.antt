@@ -5,3 +5,4 @@ pub mod Batch
 pub mod Cell
 pub mod Machine
 pub mod Invariant
+pub mod MachineLaws
