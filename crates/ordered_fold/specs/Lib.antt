@@ -6,3 +6,4 @@ pub mod Cell
 pub mod Machine
 pub mod Invariant
 pub mod MachineLaws
+pub mod MachineView

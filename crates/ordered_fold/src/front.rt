@@ -17,7 +17,8 @@ pub struct Front {
 }
 
 impl Front {
-    ghost use Rattle.ordered_fold.specs.Front.{first_front, pushed, front_of, IsFront, IsSound};
+    ghost use Rattle.ordered_fold.specs.Front.{first_front, pushed as pushed_front, front_of, is_going as is_going_ending, IsFront, IsSound};
+    ghost use Rattle.ordered_fold.specs.Batch.{pushed_number};
 
     /// The fold of no answers, of `total` that may come.
     pub fn new(total: u32, test: Test) -> Front
@@ -42,7 +43,7 @@ impl Front {
         requires sound { IsSound self.old }
         requires going { self.old.ending ≡ Ending.Going }
         requires answer { IsValidAnswer answer }
-        ensures value { self.new ≡ pushed self.old answer }
+        ensures value { self.new ≡ pushed_front self.old answer }
         ensures fold { (total : ℕ) (test : TestValue) (answers : List AnswerValue)
             → self.old ≡ front_of total test answers
             → self.new ≡ front_of total test (answers ++ answer ∷ []) }
@@ -66,6 +67,29 @@ impl Front {
                 }
             }
         };
+    }
+
+    /// How many answers may come in all.
+    pub fn total(&self) -> u32
+        ensures { result ≡ self.now.total }
+    {
+        self.total
+    }
+
+    /// Whether the fold takes in more answers.
+    pub fn is_going(&self) -> bool
+        ensures { result ≡ is_going_ending self.now.ending }
+    {
+        matches!(self.ending, Ending::Going)
+    }
+
+    /// How many answers were taken in, a fault among them.
+    pub fn pushed(&self) -> u64
+        ensures value { result ≡ pushed_number self.now }
+        ensures most { result ≤ self.now.sums.n + 1 }
+    {
+        let fault = matches!(self.ending, Ending::Faulted { .. });
+        u64::from(self.sums.n) + u64::from(fault)
     }
 
     /// How the fold ended, if it did.

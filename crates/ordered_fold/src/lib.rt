@@ -2,16 +2,19 @@
 //! that is a fault or at which the sample meets its test.
 #![tactic(auto)]
 
+mod cell;
 mod ending;
 mod event;
 mod front;
 mod laws;
+mod machine;
 mod seat;
 
+pub use cell::{answer_of, code};
 pub use ending::Ending;
 pub use event::{Act, CoreEvent};
 pub use front::Front;
-pub use laws::fold_laws;
+pub use laws::{fold_laws, machine_laws};
 pub use seat::Seat;
 
 #[cfg(test)]

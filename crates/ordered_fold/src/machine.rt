@@ -1,0 +1,256 @@
+//! The parts of the machine that events change, with a function for what each event does and, where
+//! it needs one, for whether it is enabled.
+
+ghost use Rattle.std.specs.Prelude.{◌≡◌, ◌≢◌, ◌+◌, ◌-◌, ◌^◌, ◌<◌, ◌≤◌, ℕ, true, Some, length, slice_set, IfOk};
+ghost use Rattle.confidence.specs.Answer.{IsValidAnswer};
+ghost use Rattle.ordered_fold.specs.Front.{IsSound};
+ghost use Rattle.ordered_fold.specs.Batch.{folded_number};
+ghost use Rattle.ordered_fold.specs.declared.ending.Ending.{Ending as EndingValue};
+ghost use Rattle.ordered_fold.specs.MachineView.{core_of};
+ghost use Rattle.ordered_fold.specs.Cell.{answer_of as answer_of_code};
+ghost use Rattle.ordered_fold.specs.Machine.{seat_at, cell_at, unmade as unmade_seat, core_start, is_idle as is_idle_seat, can_claim as can_claim_seat, can_report as can_report_seat, can_look as can_look_seat, drawing as drawing_seat, later as later_of, after_claim, after_report, after_try, after_glance, after_announce, after_release, after_look, after_split, after_join};
+
+use crate::{Front, Seat, answer_of};
+use smarts_base::NoMemory;
+use std::alloc::Global;
+
+const UNMADE: Seat = Seat {
+    made: false,
+    live: false,
+    hand: None,
+    last: None,
+    past: false,
+    seen_end: None,
+    holder: false,
+};
+
+#[derive(Debug, Drop)]
+pub(crate) struct Machine {
+    pub(crate) claim: u64,
+    pub(crate) lock: u64,
+    pub(crate) stop: u64,
+    pub(crate) cells: Vec<u64>,
+    pub(crate) front: Front,
+    pub(crate) seats: Vec<Seat>,
+}
+
+pub(crate) fn is_idle(seat: &Seat) -> bool
+    ensures { result ≡ is_idle_seat seat.now }
+{
+    seat.live && seat.hand.is_none() && !seat.holder
+}
+
+pub(crate) fn can_claim(seat: &Seat) -> bool
+    ensures { result ≡ can_claim_seat seat.now }
+{
+    is_idle(seat) && !seat.past && seat.seen_end.is_none()
+}
+
+pub(crate) fn can_report(seat: &Seat) -> bool
+    ensures { result ≡ can_report_seat seat.now }
+{
+    seat.live && seat.hand.is_some() && !seat.holder
+}
+
+pub(crate) fn can_look(seat: &Seat) -> bool
+    ensures { result ≡ can_look_seat seat.now }
+{
+    seat.live && !seat.holder
+}
+
+// The seat after it drew this number.
+fn drawing(size: u32, number: u64, seat: Seat) -> Seat
+    ensures { result ≡ drawing_seat size number seat }
+{
+    if number < u64::from(size) {
+        Seat {
+            hand: Some(number as u32),
+            last: Some(number),
+            ..seat
+        }
+    } else {
+        Seat {
+            last: Some(number),
+            past: true,
+            ..seat
+        }
+    }
+}
+
+fn later(first: Option<u64>, second: Option<u64>) -> Option<u64>
+    ensures { result ≡ later_of first second }
+{
+    match (first, second) {
+        (None, last) | (last, None) => last,
+        (Some(a), Some(b)) => Some(if a < b { b } else { a }),
+    }
+}
+
+impl Machine {
+    #[tactic(auto, unfolding(crate::specs::Machine::core_start))]
+    pub(crate) fn new(
+        alloc: Global,
+        start: Front,
+        size: usize,
+        seats: u32,
+    ) -> Result<Machine, NoMemory>
+        ensures { IfOk result (λ machine. core_of machine ≡ core_start start size seats) }
+    {
+        let mut machine = Machine {
+            claim: 0,
+            lock: 0,
+            stop: 0,
+            cells: vec![in alloc; 0; size]?,
+            front: start,
+            seats: vec![in alloc; UNMADE; seats as usize]?,
+        };
+        let first = Seat {
+            made: true,
+            live: true,
+            ..UNMADE
+        };
+        machine.put(0, first);
+        Ok(machine)
+    }
+
+    pub(crate) fn seat(&self, j: u32) -> Seat
+        ensures { result ≡ seat_at (core_of self.now).seats j }
+    {
+        self.seats.get(j as usize).copied().unwrap_or(UNMADE)
+    }
+
+    pub(crate) fn cell(&self, k: u32) -> u64
+        ensures { result ≡ cell_at (core_of self.now).cells k }
+    {
+        self.cells.get(k as usize).copied().unwrap_or(0)
+    }
+
+    fn put(&mut self, j: u32, seat: Seat)
+        ensures { core_of self.new ≡ record (core_of self.old) { seats = slice_set (core_of self.old).seats j seat } }
+    {
+        if let Some(place) = self.seats.get_mut(j as usize) {
+            *place = seat;
+        }
+    }
+
+    pub(crate) fn claim(&mut self, size: u32, j: u32, seat: Seat)
+        requires { self.old.claim + 1 < 2 ^ 64 }
+        ensures { core_of self.new ≡ after_claim size j seat (core_of self.old) }
+    {
+        let number = self.claim;
+        self.claim += 1;
+        self.put(j, drawing(size, number, seat));
+    }
+
+    pub(crate) fn report(&mut self, word: u64, k: u32, j: u32, seat: Seat)
+        ensures { core_of self.new ≡ after_report word k j seat (core_of self.old) }
+    {
+        if let Some(cell) = self.cells.get_mut(k as usize) {
+            *cell = word;
+        }
+        self.put(j, Seat { hand: None, ..seat });
+    }
+
+    pub(crate) fn try_lock(&mut self, j: u32, seat: Seat)
+        requires { self.old.lock + 1 < 2 ^ 64 }
+        ensures { core_of self.new ≡ after_try j seat (core_of self.old) }
+    {
+        if self.lock % 2 == 0 {
+            self.lock += 1;
+            self.put(
+                j,
+                Seat {
+                    holder: true,
+                    ..seat
+                },
+            );
+        }
+    }
+
+    pub(crate) fn glance(&mut self, start: &Front)
+        requires least { start.now.sums.n ≤ self.old.front.sums.n }
+        requires going { self.old.front.ending ≡ EndingValue.Going }
+        requires sound { IsSound self.old.front }
+        requires valid { cell_at (core_of self.old).cells (self.old.front.sums.n - start.now.sums.n) ≢ 0
+            → IsValidAnswer (answer_of_code (cell_at (core_of self.old).cells (self.old.front.sums.n - start.now.sums.n))) }
+        ensures { core_of self.new ≡ after_glance start.now (core_of self.old) }
+    {
+        let word = self.cell(self.front.count() - start.count());
+        if word != 0 {
+            self.front.push(answer_of(word));
+        }
+    }
+
+    pub(crate) fn announce(&mut self)
+        ensures { core_of self.new ≡ after_announce (core_of self.old) }
+    {
+        self.stop = u64::from(self.front.count()) + 1;
+    }
+
+    pub(crate) fn release(&mut self, start: &Front, j: u32, seat: Seat)
+        requires least { start.now.sums.n ≤ self.old.front.sums.n }
+        requires most { self.old.front.sums.n ≤ 65536 }
+        ensures { core_of self.new ≡ after_release start.now j seat (core_of self.old) }
+    {
+        self.lock = 2 * (self.front.pushed() - u64::from(start.count()));
+        self.put(
+            j,
+            Seat {
+                holder: false,
+                ..seat
+            },
+        );
+    }
+
+    pub(crate) fn look(&mut self, j: u32, seat: Seat)
+        requires { self.old.stop < 2 ^ 32 + 1 }
+        ensures { core_of self.new ≡ after_look j seat (core_of self.old) }
+    {
+        if self.stop != 0 {
+            let end = (self.stop - 1) as u32;
+            self.put(
+                j,
+                Seat {
+                    seen_end: Some(end),
+                    ..seat
+                },
+            );
+        }
+    }
+
+    pub(crate) fn split(&mut self, into: u32, seat: Seat)
+        ensures { core_of self.new ≡ after_split into seat (core_of self.old) }
+    {
+        self.put(
+            into,
+            Seat {
+                made: true,
+                live: true,
+                last: seat.last,
+                past: seat.past,
+                seen_end: seat.seen_end,
+                ..UNMADE
+            },
+        );
+    }
+
+    pub(crate) fn join(&mut self, j: u32, from: u32, seat: Seat)
+        ensures { core_of self.new ≡ after_join j from seat (core_of self.old) }
+    {
+        let other = self.seat(from);
+        let joined = Seat {
+            last: later(seat.last, other.last),
+            past: seat.past || other.past,
+            seen_end: seat.seen_end.or(other.seen_end),
+            ..seat
+        };
+        self.put(j, joined);
+        self.put(
+            from,
+            Seat {
+                live: false,
+                ..other
+            },
+        );
+    }
+}
