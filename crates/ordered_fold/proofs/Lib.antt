@@ -8,3 +8,5 @@ pub mod SeatLemmas
 pub mod EventLemmas
 pub mod FrontLemmas
 pub mod RunLemmas
+pub mod RoomLemmas
+pub mod StateLemmas

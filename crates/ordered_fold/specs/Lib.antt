@@ -7,3 +7,5 @@ pub mod Machine
 pub mod Invariant
 pub mod MachineLaws
 pub mod MachineView
+pub mod CoreRun
+pub mod CoreView

@@ -3,6 +3,7 @@
 #![tactic(auto)]
 
 mod cell;
+mod core_state;
 mod ending;
 mod event;
 mod front;
@@ -11,6 +12,7 @@ mod machine;
 mod seat;
 
 pub use cell::{answer_of, code};
+pub use core_state::{CoreState, core_run, core_step};
 pub use ending::Ending;
 pub use event::{Act, CoreEvent};
 pub use front::Front;
