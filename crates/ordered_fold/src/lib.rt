@@ -20,4 +20,6 @@ pub use laws::{fold_laws, machine_laws};
 pub use seat::Seat;
 
 #[cfg(test)]
+mod machine_tests;
+#[cfg(test)]
 mod tests;
