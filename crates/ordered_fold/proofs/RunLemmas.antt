@@ -56,61 +56,61 @@ acted_keeps :
 acted_keeps start answers core j Claim batch is =
     let seat : Seat = seat_at core.seats j in
     chosen start answers core _ is (can_claim seat) (λ can.
-        let all = and_parts (is_idle seat && not seat.past) (is_none seat.seen_end) can in
-        let idle = and_parts (is_idle seat) (not seat.past) all.0 in
-        keeps_claim start answers core j is (idle_parts seat idle.0) (not_true seat.past idle.1)
-        (none_of seat.seen_end all.1))
+    let all = and_parts (is_idle seat && not seat.past) (is_none seat.seen_end) can in
+    let idle = and_parts (is_idle seat) (not seat.past) all.0 in
+    keeps_claim start answers core j is (idle_parts seat idle.0) (not_true seat.past idle.1)
+    (none_of seat.seen_end all.1))
 acted_keeps start answers core j Report batch is =
     let seat : Seat = seat_at core.seats j in
     chosen start answers core _ is (can_report seat) (λ can.
-        let all = and_parts (seat.live && is_some seat.hand) (not seat.holder) can in
-        report_keeps start answers core j batch is (and_parts seat.live (is_some seat.hand) all.0).0
-        (not_true seat.holder all.1) seat.hand refl)
+    let all = and_parts (seat.live && is_some seat.hand) (not seat.holder) can in
+    report_keeps start answers core j batch is (and_parts seat.live (is_some seat.hand) all.0).0
+    (not_true seat.holder all.1) seat.hand refl)
 acted_keeps start answers core j Glance batch is =
     let seat : Seat = seat_at core.seats j in
     let word : ℕ = cell_at core.cells (core.front.sums.n - start.sums.n) in
     chosen start answers core _ is (can_glance start (length answers) seat core) (λ can.
-        let all = and_parts (seat.holder && is_going core.front.ending) (nat_lt core.front.sums.n (start.sums.n + length answers)) can in
-        let both = and_parts seat.holder (is_going core.front.ending) all.0 in
-        declined start answers core _ is (word == 0) (λ full.
-            keeps_push start answers core j batch is both.0 both.1
-            (ltb-true core.front.sums.n (start.sums.n + length answers) all.1)
-            (eqb-false word 0 full)))
+    let all = and_parts (seat.holder && is_going core.front.ending) (nat_lt core.front.sums.n (start.sums.n + length answers)) can in
+    let both = and_parts seat.holder (is_going core.front.ending) all.0 in
+    declined start answers core _ is (word == 0) (λ full.
+    keeps_push start answers core j batch is both.0 both.1
+    (ltb-true core.front.sums.n (start.sums.n + length answers) all.1)
+    (eqb-false word 0 full)))
 acted_keeps start answers core j Try batch is =
     let seat : Seat = seat_at core.seats j in
     chosen start answers core _ is (is_idle seat) (λ can.
-        chosen start answers core _ is (core.lock % 2 == 0) (λ free.
-            keeps_try start answers core j is (idle_parts seat can) (eqb-true (core.lock % 2) 0 free)))
+    chosen start answers core _ is (core.lock % 2 == 0) (λ free.
+    keeps_try start answers core j is (idle_parts seat can) (eqb-true (core.lock % 2) 0 free)))
 acted_keeps start answers core j Announce batch is =
     let seat : Seat = seat_at core.seats j in
     chosen start answers core _ is (can_announce seat core) (λ can.
-        keeps_announce start answers core is
-        (not_true (is_going core.front.ending) (and_parts seat.holder (not (is_going core.front.ending)) can).1))
+    keeps_announce start answers core is
+    (not_true (is_going core.front.ending) (and_parts seat.holder (not (is_going core.front.ending)) can).1))
 acted_keeps start answers core j Release batch is =
     let seat : Seat = seat_at core.seats j in
     chosen start answers core _ is seat.holder (λ holds. keeps_release start answers core j is holds)
 acted_keeps start answers core j Look batch is =
     let seat : Seat = seat_at core.seats j in
     chosen start answers core _ is (can_look seat) (λ can.
-        let both = and_parts seat.live (not seat.holder) can in
-        declined start answers core _ is (core.stop == 0) (λ told.
-            keeps_look start answers core j is both.0 (not_true seat.holder both.1)
-            (eqb-false core.stop 0 told)))
+    let both = and_parts seat.live (not seat.holder) can in
+    declined start answers core _ is (core.stop == 0) (λ told.
+    keeps_look start answers core j is both.0 (not_true seat.holder both.1)
+    (eqb-false core.stop 0 told)))
 acted_keeps start answers core j (Split into) batch is =
     let seat : Seat = seat_at core.seats j in
     chosen start answers core _ is (can_split into seat core) (λ can.
-        let all = and_parts (is_idle seat && nat_lt into (length core.seats)) (not (seat_at core.seats into).made) can in
-        let both = and_parts (is_idle seat) (nat_lt into (length core.seats)) all.0 in
-        keeps_split start answers core j into is (idle_parts seat both.0)
-        (ltb-true into (length core.seats) both.1) (not_true (seat_at core.seats into).made all.1))
+    let all = and_parts (is_idle seat && nat_lt into (length core.seats)) (not (seat_at core.seats into).made) can in
+    let both = and_parts (is_idle seat) (nat_lt into (length core.seats)) all.0 in
+    keeps_split start answers core j into is (idle_parts seat both.0)
+    (ltb-true into (length core.seats) both.1) (not_true (seat_at core.seats into).made all.1))
 acted_keeps start answers core j (Join from) batch is =
     let seat : Seat = seat_at core.seats j in
     let other : Seat = seat_at core.seats from in
     chosen start answers core _ is (can_join j from seat core) (λ can.
-        let all = and_parts (not (j == from) && is_idle seat) (is_idle other) can in
-        let both = and_parts (not (j == from)) (is_idle seat) all.0 in
-        keeps_join start answers core j from is (idle_parts seat both.1) (idle_parts other all.1)
-        (eqb-false j from (not_true (j == from) both.0)))
+    let all = and_parts (not (j == from) && is_idle seat) (is_idle other) can in
+    let both = and_parts (not (j == from)) (is_idle seat) all.0 in
+    keeps_join start answers core j from is (idle_parts seat both.1) (idle_parts other all.1)
+    (eqb-false j from (not_true (j == from) both.0)))
 
 pub step_keeps :
     (start : Front) (answers : List Answer) (core : Core) (event : CoreEvent) → IsBatch start answers
@@ -350,8 +350,8 @@ glance_folds start answers core seat batch is true false e f =
     let all = and_parts (seat.holder && is_going core.front.ending) (nat_lt core.front.sums.n (start.sums.n + length answers)) e in
     let both = and_parts seat.holder (is_going core.front.ending) all.0 in
     let folds = folds_next start answers core batch is both.1
-        (ltb-true core.front.sums.n (start.sums.n + length answers) all.1)
-        (eqb-false (cell_at core.cells (core.front.sums.n - start.sums.n)) 0 f) in
+    (ltb-true core.front.sums.n (start.sums.n + length answers) all.1)
+    (eqb-false (cell_at core.cells (core.front.sums.n - start.sums.n)) 0 f) in
     inr (folds.next, folds.below, folds.full)
 
 acted_folds :

@@ -105,7 +105,7 @@ keeps_split start answers core j into is idle within never =
     (λ k h. absurd (no_hand (child_of seat) refl h))
     (sym ((is.each into).dead dead))
     (λ n last. some_seat (λ s. HasLast n s) core.seats into (child_of seat) within
-        (λ h. absurd (not_both old.live h.0 dead)) (is.latest n last))
+    (λ h. absurd (not_both old.live h.0 dead)) (is.latest n last))
     (λ d. absurd (not_both old.made (and_parts old.made (old.past || not old.live) d).0 never))
 
 -- the greater of two last numbers below a bound is the one just below it, where either is
@@ -286,11 +286,15 @@ keeps_join start answers core j from is idle other_idle differ =
     known n top = by_place (is.latest n top)
       where
         joined : (seat_at core.seats j).last ≡ Some n ⊎ other.last ≡ Some n → (i : ℕ) × HasLast n (seat_at after i)
-        joined e =
-            (j, subst (λ s. HasLast n s) (sym (kept j differ ∙ at_j))
-            (idle.live, later_is (seat_at core.seats j).last other.last n
+        joined e = (
+          j,
+          subst (λ s. HasLast n s) (sym (kept j differ ∙ at_j)) (
+            idle.live,
+            later_is (seat_at core.seats j).last other.last n
                 (λ m h. omega (arith, (is.each j).last m (idle.live, h), top))
-                (λ m h. omega (arith, (is.each from).last m (other_idle.live, h), top)) e))
+                (λ m h. omega (arith, (is.each from).last m (other_idle.live, h), top)) e,
+          ),
+        )
 
         by_place : ((i : ℕ) × HasLast n (seat_at core.seats i)) → (i : ℕ) × HasLast n (seat_at after i)
         by_place (i, has) = by_seat (cases_eq i j) (cases_eq i from)

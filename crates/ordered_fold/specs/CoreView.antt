@@ -5,5 +5,7 @@ use Rattle.ordered_fold.specs.MachineView.{core_of}
 
 abbrev pub run_of : Inside → CoreRun
 run_of fields = record {
-  start = fields.start; answers = fields.answers.items; core = core_of fields.machine
+  start = fields.start;
+  answers = fields.answers.items;
+  core = core_of fields.machine;
 }

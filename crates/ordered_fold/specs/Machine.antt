@@ -27,7 +27,13 @@ pub record Core : Type 0 where
 -- a seat that was never made
 abbrev pub unmade : Seat
 unmade = record {
-  made = false; live = false; hand = None; last = None; past = false; seen_end = None; holder = false
+  made = false;
+  live = false;
+  hand = None;
+  last = None;
+  past = false;
+  seen_end = None;
+  holder = false;
 }
 
 -- a seat beyond the last is as one that was never made
@@ -45,7 +51,9 @@ code_or_zero (Some answer) = code answer
 -- the words and cells are 0, and of so many seats the first alone is made
 unfoldable pub core_start : Front → ℕ → ℕ → Core
 core_start start size seats = record {
-  claim = 0; lock = 0; stop = 0;
+  claim = 0;
+  lock = 0;
+  stop = 0;
   cells = replicate size 0;
   front = start;
   seats = slice_set (replicate seats unmade) 0 (record unmade { made = true; live = true });
@@ -130,7 +138,11 @@ can_split into seat core =
 
 abbrev pub child_of : Seat → Seat
 child_of seat = record unmade {
-  made = true; live = true; last = seat.last; past = seat.past; seen_end = seat.seen_end
+  made = true;
+  live = true;
+  last = seat.last;
+  past = seat.past;
+  seen_end = seat.seen_end;
 }
 
 abbrev pub after_split : ℕ → Seat → Core → Core

@@ -33,10 +33,10 @@ FoldsInOrder =
     (start : Front) (answers : List Answer) (core : Core) (event : CoreEvent)
     → IsBatch start answers → IsReached start answers core
     → let m = folded_number start core.front in
-      let after = core_step start answers core event in
-      (core.front ≡ fold_from start answers m)
-      × ((after.front ≡ core.front)
-      ⊎ ((after.front ≡ fold_from start answers (m + 1)) × (m < length answers) × (cell_at core.cells m ≢ 0)))
+    let after = core_step start answers core event in
+    (core.front ≡ fold_from start answers m)
+    × ((after.front ≡ core.front)
+    ⊎ ((after.front ≡ fold_from start answers (m + 1)) × (m < length answers) × (cell_at core.cells m ≢ 0)))
 
 -- an end that was announced is the batch's, and stays announced
 abbrev pub StopStays : Type 0

@@ -4,7 +4,9 @@ use Rattle.ordered_fold.specs.Machine.{Core}
 
 abbrev pub core_of : Machine → Core
 core_of machine = record {
-  claim = machine.claim; lock = machine.lock; stop = machine.stop;
+  claim = machine.claim;
+  lock = machine.lock;
+  stop = machine.stop;
   cells = machine.cells.items;
   front = machine.front;
   seats = machine.seats.items;

@@ -48,9 +48,9 @@ impl CoreState {
         requires test { IsInRange test }
         requires seats { 0 < seats }
         ensures { IfOk result (λ state. state ≡ record {
-            start = first_front (length answers.now) test;
-            answers = answers.now;
-            core = core_start (first_front (length answers.now) test) (length answers.now) seats;
+          start = first_front (length answers.now) test;
+          answers = answers.now;
+          core = core_start (first_front (length answers.now) test) (length answers.now) seats;
         }) }
     {
         let front = Front::new(answers.len() as u32, test);
@@ -67,9 +67,9 @@ impl CoreState {
         requires batch { IsBatch front answers.now }
         requires seats { 0 < seats }
         ensures { IfOk result (λ state. state ≡ record {
-            start = front;
-            answers = answers.now;
-            core = core_start front (length answers.now) seats;
+          start = front;
+          answers = answers.now;
+          core = core_start front (length answers.now) seats;
         }) }
     {
         Ok(CoreState {
@@ -82,7 +82,8 @@ impl CoreState {
     /// One event after the other; one that isn't enabled changes nothing.
     pub fn run(&mut self, events: &[CoreEvent])
         ensures { self.new ≡ record self.old {
-            core = fold (step_of self.old.start self.old.answers) self.old.core events.now } }
+          core = fold (step_of self.old.start self.old.answers) self.old.core events.now;
+        } }
     {
         for event in events {
             core_step(self, *event);
@@ -148,7 +149,8 @@ impl CoreState {
 /// One event; one that isn't enabled changes nothing.
 pub fn core_step(state: &mut CoreState, event: CoreEvent)
     ensures step { state.new ≡ record state.old {
-        core = step_of state.old.start state.old.answers state.old.core event } }
+      core = step_of state.old.start state.old.answers state.old.core event;
+    } }
     ensures invariant { IsCore state.new.start state.new.answers state.new.core }
 {
     let start = state.start;

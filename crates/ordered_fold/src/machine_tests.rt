@@ -26,7 +26,10 @@ fn draws_and_reports(rt: HostRuntime) -> Result<(), Fail> {
     ];
     let state = core_run(rt.alloc(), &answers, TEST, 2, &events)?;
     assert_eq!(rt; (state.claim(), state.lock(), state.stop()), (2, 0, 0));
-    assert_eq!(rt; [state.cell(0), state.cell(1), state.cell(2), state.cell(3)], [16, 16, 0, 0]);
+    assert_eq!(rt;
+        [state.cell(0), state.cell(1), state.cell(2), state.cell(3)],
+        [16, 16, 0, 0]
+    );
     assert_eq!(rt; state.home().map(Front::count), Some(0));
     let seat = state.seat(1);
     assert_eq!(rt; (seat.hand, seat.last, seat.past), (None, Some(1), false));
@@ -51,7 +54,10 @@ fn goes_on_from_a_front(rt: HostRuntime) -> Result<(), Fail> {
     }
     assert_eq!(rt; state.home(), None);
     core_step(&mut state, event(0, Act::Release));
-    assert_eq!(rt; state.home().map(Front::ending), Some(Ending::Stopped { count: 2 }));
+    assert_eq!(rt;
+        state.home().map(Front::ending),
+        Some(Ending::Stopped { count: 2 })
+    );
     assert_eq!(rt; (state.claim(), state.lock(), state.stop()), (1, 2, 3));
     Ok(())
 }
@@ -87,13 +93,7 @@ fn fronts_in_order(
 ) -> Result<Vec<Front>, NoMemory> {
     let mut fronts = vec![in alloc; *one.front(); 1]?;
     for _answer in 0..count {
-        for act in [
-            Act::Claim,
-            Act::Report,
-            Act::Try,
-            Act::Glance,
-            Act::Release,
-        ] {
+        for act in [Act::Claim, Act::Report, Act::Try, Act::Glance, Act::Release] {
             core_step(one, event(0, act));
         }
         fronts.push(*one.front())?;
@@ -124,10 +124,14 @@ fn is_seat(state: &CoreState, seat: &Seat, size: u64) -> bool {
     }
     seat.made
         && seat.last.is_none_or(|last| last < state.claim())
-        && seat.hand.is_none_or(|hand| seat.last == Some(u64::from(hand)))
+        && seat
+            .hand
+            .is_none_or(|hand| seat.last == Some(u64::from(hand)))
         && !(seat.holder && seat.hand.is_some())
         && (!seat.past || size <= state.claim())
-        && seat.seen_end.is_none_or(|end| state.stop() == u64::from(end) + 1)
+        && seat
+            .seen_end
+            .is_none_or(|end| state.stop() == u64::from(end) + 1)
 }
 
 /// Whether the words and the front agree, where `holders` seats hold and `done` draw no more.
@@ -171,7 +175,9 @@ fn is_core(state: &CoreState, codes: &[u64], fronts: &[Front]) -> bool {
         k = k.wrapping_add(1);
     }
     latest == state.claim().checked_sub(1)
-        && seats.iter().all(|seat| is_seat(state, seat, codes.len() as u64))
+        && seats
+            .iter()
+            .all(|seat| is_seat(state, seat, codes.len() as u64))
         && are_words(state, fronts, holders, done)
 }
 
