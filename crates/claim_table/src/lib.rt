@@ -1,0 +1,8 @@
+//! The board: numbers that workers draw, cells that they report into, and one front that one of them
+//! at a time folds, over atomic words and without a lock that anyone waits for.
+#![tactic(auto)]
+
+mod plays;
+mod rule;
+
+pub use rule::{Key, Listed, Note, Rule, View};
