@@ -6,8 +6,9 @@ use Rattle.confidence.specs.declared.answer.PointKind.{PointKind}
 use Rattle.confidence.specs.declared.answer.PointKind.TheVariants as kinds
 use Rattle.hierarchy.specs.declared.config.Config.{Config}
 use Rattle.hierarchy.specs.declared.marked.Marked.{Marked}
-use Rattle.hierarchy.specs.References.{warmed}
-use Rattle.hierarchy.specs.Runs.{Halt, Trapped, AfterExit, run_of, trace}
+use Rattle.hierarchy.specs.Trace.{trace}
+use Rattle.hierarchy.specs.Warming.{warmed}
+use Rattle.rv_exec.specs.Runs.{Halt, Trapped, AfterExit, run_of}
 use Rattle.ruu_timing.specs.Scalar.{scalar_cycles}
 use Rattle.ruu_timing.specs.Times.{cycles}
 use Rattle.rv_exec.specs.declared.event.TrapKind.{TrapKind}
