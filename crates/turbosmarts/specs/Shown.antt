@@ -8,7 +8,7 @@ use Rattle.rv_exec.specs.Runs.{run_of}
 use Rattle.rv_exec.specs.declared.event.Event.{Event}
 use Rattle.rv_exec.specs.Machine.{State}
 use Rattle.sample_design.specs.declared.units.Window.{Window}
-use Rattle.turbosmarts.specs.Units.{cycles_of}
+use Rattle.ruu_timing.specs.Machine.{cycles_of}
 
 -- the first so many instructions of a run
 abbrev pub events_to : State → ℕ → List Event
