@@ -4,28 +4,16 @@ use Rattle.std.specs.Prelude.{◌==◌, if◌then◌else◌, ◌&&◌, slice_get
 use Rattle.std.specs.FinMap as map
 use Rattle.std.specs.FinMap.{find}
 use Rattle.std.specs.Ordering.{nat_cmp}
-use Rattle.std.specs.Cmp.{nat_cmp_total, unsigned_tied}
+use Rattle.std.specs.Cmp.{nat_cmp_total}
 use Rattle.std.proofs.lemmas.Option.{slice_get-get_or, slice_get_past}
 use Rattle.std.proofs.lemmas.Bool.{lt-ltb, le-ltb, ne_eqb, cases_lt, cases_eq}
 use Rattle.std.proofs.lemmas.Bool.Decides.{nat_tests}
 use Rattle.rv_exec.specs.Memory.{Words, word_at, stored}
+use Rattle.rv_exec.proofs.MemoryLemmas.{find_first, word_at-stored}
 use Rattle.rv_exec.specs.Memories.{words_from, flat_words, two_words}
-
--- what is found in a list of entries, with == for the comparison of keys
-find_first :
-    (q : ℕ) (e : ℕ × ℕ) (es : List (ℕ × ℕ))
-    → find nat_cmp q (e ∷ es) ≡ (if q == e.0 then Some e.1 else find nat_cmp q es)
-find_first q e es = ap (λ (b : Bool). if b then Some e.1 else find nat_cmp q es) (unsigned_tied q e.0)
 
 word_at-from : (es : List (ℕ × ℕ)) (q : ℕ) → word_at (map.from_entries es) q ≡ find nat_cmp q es
 word_at-from es q = map.get-from_entries nat_cmp_total es q
-
-word_at-stored :
-    (words : Words) (at value q : ℕ)
-    → word_at (stored words at value) q ≡ (if q == at then Some value else word_at words q)
-word_at-stored words at value q =
-    map.get-insert nat_cmp_total words at value q
-    ∙ ap (λ (b : Bool). if b then Some value else word_at words q) (unsigned_tied q at)
 
 same_words : (one other : Words) → ((q : ℕ) → word_at one q ≡ word_at other q) → one ≡ other
 same_words one other same = map.same_map nat_cmp_total map.nat_cmp-IsAntisymmetric one other same

@@ -1,8 +1,29 @@
--- A write buffer of a whole program passes exactly where each of its bytes is mapped.
-use Rattle.std.proofs.Common.{◌≡◌, ◌<◌, ◌≤◌, ◌⊎◌, ◌^◌, ◌+◌, ◌-◌, ℕ, Bool, true, false, arith, inl, inr, refl, eq-eqb, eqb-true}
-use Rattle.std.specs.Prelude.{◌||◌, ◌&&◌, ◌==◌, nat_le}
+-- Words that are found in a memory and stored there; and that a write buffer of a whole program passes
+-- exactly where each of its bytes is mapped.
+use Rattle.std.proofs.Common.{List, ◌∷◌, Some, ap, ◌∙◌, ◌≡◌, ◌<◌, ◌≤◌, ◌⊎◌, ◌^◌, ◌+◌, ◌-◌, ℕ, Bool, true, false, arith, inl, inr, refl, eq-eqb, eqb-true}
+use Rattle.std.specs.Prelude.{◌||◌, ◌&&◌, ◌==◌, nat_le, if◌then◌else◌}
 use Rattle.std.proofs.lemmas.Bool.{cases_lt, leb-true, le-leb}
-use Rattle.rv_exec.specs.Memory.{Mapped, passes, lies_within, IsMapped, PassesWhereMapped}
+use Rattle.std.specs.FinMap as map
+use Rattle.std.specs.FinMap.{find}
+use Rattle.std.specs.Ordering.{nat_cmp}
+use Rattle.std.specs.Cmp.{nat_cmp_total, unsigned_tied}
+use Rattle.rv_exec.specs.Memory.{Words, Mapped, word_at, stored, passes, lies_within, IsMapped}
+use Rattle.rv_exec.specs.Laws.{PassesWhereMapped}
+
+-- what is found in a list of entries, with == for the comparison of keys
+pub find_first :
+    (q : ℕ) (e : ℕ × ℕ) (es : List (ℕ × ℕ))
+    → find nat_cmp q (e ∷ es) ≡ (if q == e.0 then Some e.1 else find nat_cmp q es)
+find_first q e es = ap (λ (b : Bool). if b then Some e.1 else find nat_cmp q es) (unsigned_tied q e.0)
+
+pub word_at-stored :
+    (words : Words) (at value q : ℕ)
+    → word_at (stored words at value) q ≡ (if q == at then Some value else word_at words q)
+word_at-stored words at value q =
+    map.get-insert nat_cmp_total words at value q
+    ∙ ap (λ (b : Bool). if b then Some value else word_at words q) (unsigned_tied q at)
+
+-- ---- write buffers
 
 either : (a b : Bool) → (a || b) ≡ true → (a ≡ true) ⊎ (b ≡ true)
 either true b e = inl refl

@@ -2,7 +2,9 @@
 use Rattle.std.proofs.Common.{◌≡◌, ◌%◌, ◌+◌, ◌-◌, ◌^◌, ℕ, Bool, true, false, refl, arith, List, Option, Some, None, Err, inl, inr, subst, sym, ◌∙◌}
 use Rattle.std.specs.Prelude.{is_some, ◌==◌, ◌||◌, ◌&&◌, nat_le, if◌then◌else◌, IfSome}
 use Rattle.std.specs.Option.{option_map}
-use Rattle.rv_exec.specs.Steps.{place_of, HoldsData, applied, over, IsHeapEnd, EveryStep}
+use Rattle.rv_exec.specs.Laws.{EveryStep}
+use Rattle.rv_exec.specs.References.{place_of}
+use Rattle.rv_exec.specs.Steps.{HoldsData, applied, over, IsHeapEnd}
 use Rattle.std.proofs.lemmas.Bool.{eqb-true}
 use Rattle.std.proofs.lemmas.Bool.Decides.{nat_tests}
 use Rattle.rv_isa.specs.declared.inst.Inst.{Inst}

@@ -5,6 +5,7 @@ pub mod Calls
 pub mod Data
 pub mod Event
 pub mod Finish
+pub mod Laws
 pub mod Machine
 pub mod Memories
 pub mod Memory

@@ -1,5 +1,5 @@
 -- Runs of a machine for a number of instructions.
-use Rattle.std.specs.Prelude.{◌≡◌, ℕ, zero, suc, ◌+◌, Option, Some, None, List, [], ◌∷◌, ◌++◌, length}
+use Rattle.std.specs.Prelude.{ℕ, zero, suc, Option, Some, None, List, [], ◌∷◌, ◌++◌}
 use Rattle.std.specs.Option.{option_or}
 use Rattle.rv_exec.specs.declared.event.Event.{Event}
 use Rattle.rv_exec.specs.declared.event.Trap.{Trap}
@@ -50,19 +50,3 @@ state_after start n = (run_of start n).after
 -- what the instruction of that number leads to, counted from 0, where the run comes to it
 abbrev pub step_at : State → ℕ → Outcome
 step_at start n = next (state_after start n)
-
--- a run can be cut at any instruction: it is a first part, and a second one from where that came to
-abbrev pub RunsSplit : Type 0
-RunsSplit =
-    (m : State) (a b : ℕ) → run_of m (a + b) ≡ joined (run_of m a) (run_of (run_of m a).after b)
-
--- a run that doesn't end early has as many instructions as it was asked for
-abbrev pub RunsAreWhole : Type 0
-RunsAreWhole = (m : State) (n : ℕ) → (run_of m n).halt ≡ None → length (run_of m n).events ≡ n
-
--- a run grows by the instruction that comes next
-abbrev pub RunsGrow : Type 0
-RunsGrow =
-    (m now after : State) (n : ℕ) (e : Event) → now ≡ (run_of m n).after → now.exit ≡ None
-    → next now ≡ Went e after
-    → run_of m (n + 1) ≡ joined (run_of m n) (record { events = e ∷ []; after = after; halt = None })

@@ -1,15 +1,12 @@
 -- What holds of every step that is done, whatever the instruction is.
-use Rattle.std.specs.Prelude.{◌≡◌, ◌≤◌, ◌⊎◌, ℕ, ◌+◌, ◌-◌, ◌%◌, ◌^◌, Option, Some, None, IfSome}
+use Rattle.std.specs.Prelude.{◌≡◌, ◌≤◌, ◌⊎◌, ℕ, ◌+◌, ◌^◌, Option, Some, None, IfSome}
 use Rattle.std.specs.Option.{option_map}
 use Rattle.rv_exec.specs.declared.event.Event.{Event}
 use Rattle.rv_exec.specs.declared.event.DataRef.{DataRef}
 use Rattle.rv_exec.specs.Memory.{Words, Every, word_at, stored}
 use Rattle.rv_exec.specs.Machine.{State, Went}
+use Rattle.rv_exec.specs.References.{place_of}
 use Rattle.rv_exec.specs.Next.{next}
-
--- the address of the word that holds the data
-abbrev pub place_of : DataRef → ℕ
-place_of d = d.addr - d.addr % 4
 
 -- the words hold what the load or store found
 abbrev pub HoldsData : Words → Option DataRef → Type 0
@@ -47,6 +44,3 @@ pub record Stepped (s : State) (e : Event) (after : State) : Type 0 where
   pub again :
       (m : Words) → word_at m e.pc ≡ Some e.fetched → HoldsData m e.access
       → next (over s m) ≡ Went e (over after (applied write m))
-
-abbrev pub EveryStep : Type 0
-EveryStep = (s : State) (e : Event) (after : State) → next s ≡ Went e after → Stepped s e after
