@@ -7,7 +7,7 @@ use Rattle.rv_exec.specs.declared.event.Trap.{Trap}
 use Rattle.rv_exec.specs.Machine as step
 use Rattle.rv_exec.specs.Machine.{State, Went, Stopped}
 use Rattle.rv_machine.specs.declared.outcome.Outcome.TheVariants.{Exited, Trapped, Spent}
-use Rattle.rv_exec.specs.Runs.{state_after, step_at}
+use Rattle.rv_exec.specs.Runs.{step_at}
 use Rattle.rv_machine.specs.declared.outcome.Outcome.{Outcome}
 use Rattle.rv_machine.specs.Outcome.{is_last, exited_by, ended_by, ended_at, outcome_of, Does, Reaches, Exits, Traps, IsOutcome}
 

@@ -11,7 +11,8 @@ use Rattle.std.proofs.lemmas.Option.{slice_get_past, slice_get-get_or}
 use Rattle.std.proofs.Common.{eq-eqb}
 use Rattle.std.proofs.lemmas.List.{append-nil}
 use Rattle.std.proofs.lemmas.Bool.Decides.{nat_tests}
-use Rattle.rv_exec.specs.Memory.{Words, word_at, stored}
+use Rattle.rv_exec.specs.Memory.{word_at, stored}
+use Rattle.rv_exec.proofs.MemoryLemmas.{word_at-stored}
 use Rattle.rv_machine.specs.ProgramMemory.{block, words_of, AreBlocks, IsPlace}
 
 -- the first entry is that of the key, or it is passed over
@@ -106,12 +107,6 @@ entries_of low q ws st =
     map.get-from_entries nat_cmp_total (block low ws ++ block 0x7FF00000 st) q
     ∙ ap (λ es. map.find nat_cmp q (block low ws ++ es)) (sym (append-nil (block 0x7FF00000 st)))
 
-pub get_stored :
-    (words : Words) (a v q : ℕ)
-    → word_at (stored words a v) q ≡ (if q == a then Some v else word_at words q)
-get_stored words a v q =
-    map.get-insert nat_cmp_total words a v q ∙ (rw (unsigned_tied q a))
-
 first_hit :
     (low heap_low a i : ℕ) (ws st : List ℕ)
     → AreBlocks low heap_low ws st → IsPlace low a i → i < length ws
@@ -167,7 +162,7 @@ first_set low heap_low a i v ws st are at h =
     (λ q. entries_of low q (slice_set ws i v) st
     ∙ find_set low q i v ws (block 0x7FF00000 st ++ []) h
     ∙ (rw (← place, ← entries_of low q ws st))
-    ∙ sym (get_stored (words_of low ws st) a v q))
+    ∙ sym (word_at-stored (words_of low ws st) a v q))
 
 second_set :
     (low heap_low a j v : ℕ) (ws st : List ℕ)
@@ -184,7 +179,7 @@ second_set low heap_low a j v ws st are above second h =
     (block 0x7FF00000 st ++ []) none
     (find_set 0x7FF00000 q j v st [] h ∙ (rw (← place)))
     ∙ (rw (← entries_of low q ws st))
-    ∙ sym (get_stored (words_of low ws st) a v q))
+    ∙ sym (word_at-stored (words_of low ws st) a v q))
 
 -- below the stack the word at an address is that at its place in the first block, and from there on
 -- that at its place in the second

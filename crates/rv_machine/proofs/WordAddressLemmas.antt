@@ -85,7 +85,16 @@ pub word_where :
 word_where low heap_low addr ws st are =
     (some_word low heap_low addr ws st are, held_word low heap_low addr ws st are)
 
--- the same, where the test of write buffers tells what is mapped
+-- a word that is found stands at a multiple of 4
+pub word_aligned :
+    (low heap_low addr : ℕ) (ws st : List ℕ) (result : Option ℕ)
+    → AreBlocks low heap_low ws st → result ≡ word_at (words_of low ws st) addr → IsSome result
+    → addr % 4 ≡ 0
+word_aligned low heap_low addr ws st result are is some =
+    let P : Option ℕ → Type 0 = λ o. IsSome o in
+    (some_word low heap_low addr ws st are (subst P is some)).0
+
+-- a word is there exactly at each address of one, where the test of write buffers tells what is mapped
 pub word_mapped :
     (low heap_low addr : ℕ) (ws st : List ℕ) (result : Option ℕ) (buffers : Buffers)
     → AreBlocks low heap_low ws st → result ≡ word_at (words_of low ws st) addr

@@ -1,4 +1,4 @@
-ghost use Rattle.std.specs.Prelude.{ℕ};
+ghost use Rattle.std.specs.Prelude.{◌≡◌, ◌%◌, ℕ};
 ghost use Rattle.rv_exec.specs.Memory.{Every, Mapped};
 ghost use Rattle.rv_exec.specs.Memories.{flat_words, two_words};
 
@@ -11,6 +11,7 @@ pub struct Pair {
     pub code: u32,
     pub data_at: u32,
     pub data: u32,
+    pub ghost aligned: { (code_at % 4 ≡ 0) × (data_at % 4 ≡ 0) },
 }
 
 impl Memory for Pair {
