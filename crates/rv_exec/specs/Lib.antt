@@ -7,10 +7,10 @@ pub mod Event
 pub mod Finish
 pub mod Laws
 pub mod Machine
-pub mod Memories
 pub mod Memory
 pub mod Next
 pub mod References
 pub mod Runs
 pub mod Steps
+pub mod Tests
 pub mod Word

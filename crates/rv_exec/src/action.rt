@@ -155,6 +155,7 @@ fn store(addr: u32, size: Size, value: u32) -> Action
 }
 
 /// What an instruction is to do at this pc, with these registers.
+// Inlined: what is to be done needn't be made as a value where it is done at once.
 #[inline(always)]
 pub fn read_action(core: &Core, inst: &Inst) -> Action
     requires { IsEncodable inst.now }

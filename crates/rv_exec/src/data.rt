@@ -12,6 +12,9 @@ use crate::memory::Memory;
 use crate::state::Core;
 use rv_isa::Decoded;
 
+// `inline(always)` stands on all that a step calls: a call would hand the event, a record of some 60
+// bytes, through memory, which costs more than the instruction itself.
+
 /// A load. A load of a whole word has code of its own, which asks for no size.
 #[inline(always)]
 pub fn load<M: Memory>(

@@ -9,6 +9,9 @@ use crate::event::{Buffer, DataRef, Event, Flow, TrapKind};
 use crate::state::Core;
 use rv_isa::Decoded;
 
+// `inline(always)` stands on all that a step calls: a call would hand the event, a record of some 60
+// bytes, through memory, which costs more than the instruction itself.
+
 /// The address of the instruction behind the one at `pc`.
 #[inline(always)]
 pub fn following(pc: u32) -> u32

@@ -14,6 +14,9 @@ use crate::memory::Memory;
 use crate::state::Core;
 use rv_isa::{Decoded, Decoder, decode};
 
+// `inline(always)` stands on all that a step calls: a call would hand the event, a record of some 60
+// bytes, through memory, which costs more than the instruction itself.
+
 /// Executes the instruction at `core.pc`.
 ///
 /// On a trap the core and the memory are as they were. A misaligned address is told before a

@@ -10,7 +10,7 @@ use Rattle.std.proofs.lemmas.Bool.{lt-ltb, le-ltb, ne_eqb, cases_lt, cases_eq}
 use Rattle.std.proofs.lemmas.Bool.Decides.{nat_tests}
 use Rattle.rv_exec.specs.Memory.{Words, word_at, stored}
 use Rattle.rv_exec.proofs.MemoryLemmas.{find_first, word_at-stored}
-use Rattle.rv_exec.specs.Memories.{words_from, flat_words, two_words}
+use Rattle.rv_exec.specs.Tests.Memories.{words_from, flat_words, two_words}
 
 word_at-from : (es : List (ℕ × ℕ)) (q : ℕ) → word_at (map.from_entries es) q ≡ find nat_cmp q es
 word_at-from es q = map.get-from_entries nat_cmp_total es q
