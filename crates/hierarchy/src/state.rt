@@ -81,6 +81,7 @@ impl State {
     }
 
     /// Makes the references of one instruction and learns from it. Answers its marks.
+    // Inlined, as `annotate` is: the marks are used at once, and needn't go through memory.
     #[inline]
     #[tactic(auto, unfolding(crate::specs::State::mark_of, crate::specs::State::after_event))]
     fn mark(&mut self, latencies: &Latencies, event: &Event) -> Marked

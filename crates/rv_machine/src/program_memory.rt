@@ -62,6 +62,7 @@ impl ProgramMemory {
 /// Where the word of an address stands in a block that begins at `base`. The rotation divides by 4,
 /// and takes what is left over to the highest bits: an address that is not a multiple of 4 from the
 /// base on is beyond every block, as one below the base is.
+// Inlined, as `load_word` and `store_word` are: every fetch, load and store comes here.
 #[tactic(auto, using(crate::proofs::PlaceLemmas::rotated))]
 #[inline(always)]
 fn place(addr: u32, base: u32) -> usize

@@ -81,6 +81,7 @@ impl Whole {
 
     /// Executes one instruction. Memory can be wanted only where the output is kept and the
     /// instruction writes to it.
+    // Inlined, so that the event needn't go through memory and what isn't used of it isn't made.
     #[inline(always)]
     pub fn advance(&mut self) -> Result<Event, MachineFault>
         requires { self.old.state.exit ≡ None }
