@@ -1,4 +1,4 @@
-ghost use Rattle.std.specs.Prelude.{◌≤◌, ◌↔◌, IsTrue, MatchBool, MatchOption};
+ghost use Rattle.std.specs.Prelude.{◌≡◌, ◌≤◌, ◌↔◌, IsTrue, MatchBool, MatchOption};
 ghost use Rattle.lru_plain.specs.Shape.{Shape};
 ghost use Rattle.predictor.specs.Kind.{IsKind};
 ghost use Rattle.hierarchy.specs.Widths.{AreLatencies};
@@ -91,6 +91,19 @@ impl Config {
             && is_kind(self.kind)
             && are_in_range(&self.widths)
             && are_latencies(&self.latencies)
+    }
+
+    /// The same once more.
+    pub fn copied(&self) -> Config
+        ensures { result ≡ self.now }
+    {
+        Config {
+            ruu: self.ruu,
+            places: self.places.copied(),
+            kind: self.kind,
+            widths: self.widths,
+            latencies: self.latencies,
+        }
     }
 
     /// The first thing that is wrong with the configuration.

@@ -114,6 +114,12 @@ fn tiny() -> Result<Config, Fail>
     }
 }
 
+/// Takes types that threads may share.
+fn is_shared<T: Sync>(_: &T) {}
+
+/// Takes types that may go from one thread to another.
+fn is_sent<T: Send>(_: &T) {}
+
 fn event(class: Class, pc: u32, addr: Option<u32>, control: Flow, next: u32) -> Event {
     Event {
         pc,
@@ -329,6 +335,9 @@ fn marks_every_combination(rt: HostRuntime) -> Result<(), Fail> {
 fn marks_transfers(rt: HostRuntime) -> Result<(), Fail> {
     let config = tiny()?;
     let mut state = State::new(rt.alloc(), &config)?;
+    is_shared(&config);
+    is_sent(&state);
+    assert_eq!(rt; config.copied(), config);
     let taken = Flow::Branch { taken: true };
     let call = Flow::Jal { push: true };
     let jump = Flow::Jalr {
@@ -368,6 +377,6 @@ fn marks_transfers(rt: HostRuntime) -> Result<(), Fail> {
         image.counters(),
         [3, 1, 1, 1, 1, 1, 1, 1, 1, 1, 1, 1, 1, 1, 1, 1].as_slice()
     );
-    run_laws();
+    trace_laws();
     Ok(())
 }

@@ -1,5 +1,5 @@
 -- What a memory means: the words that it holds, and which write buffers it lets pass.
-use Rattle.std.specs.Prelude.{◌≡◌, ◌↔◌, ◌⊎◌, ◌<◌, ◌≤◌, ℕ, ◌+◌, ◌^◌, Bool, true, ◌||◌, ◌&&◌, ◌==◌, nat_le, Option}
+use Rattle.std.specs.Prelude.{◌⊎◌, ◌<◌, ◌≤◌, ℕ, ◌+◌, ◌^◌, Bool, true, ◌||◌, ◌&&◌, ◌==◌, nat_le, Option}
 use Rattle.std.specs.FinMap as map
 use Rattle.std.specs.Ordering.{nat_cmp}
 
@@ -33,10 +33,3 @@ passes (Mapped low heap_low) addr len =
 abbrev pub IsMapped : ℕ → ℕ → ℕ → Type 0
 IsMapped low heap_low addr =
     ((low ≤ addr) × (addr < heap_low + 2 ^ 26)) ⊎ ((0x7FF00000 ≤ addr) × (addr < 0x80000000))
-
--- a buffer passes exactly where each of its bytes is mapped
-abbrev pub PassesWhereMapped : Type 0
-PassesWhereMapped =
-    (low heap_low addr len : ℕ) → heap_low ≤ 0x70000000
-    → (passes (Mapped low heap_low) addr len ≡ true)
-    ↔ ((k : ℕ) → k < len → IsMapped low heap_low (addr + k))

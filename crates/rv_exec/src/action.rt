@@ -2,7 +2,7 @@ ghost use Rattle.std.specs.Prelude.{◌≡◌, ◌<◌, ◌==◌, ◌&&◌, not,
 ghost use Rattle.rv_isa.specs.Table.{IsEncodable};
 ghost use Rattle.rv_exec.specs.Word as words;
 ghost use Rattle.rv_exec.specs.Machine as machine;
-ghost use Rattle.rv_exec.specs.Actions as actions;
+ghost use Rattle.rv_exec.specs.Action as actions;
 ghost use Rattle.rv_exec.specs.declared.action.Action.TheVariants as tasks;
 ghost use Rattle.rv_exec.specs.declared.event.Flow.TheVariants as flows;
 
@@ -155,6 +155,7 @@ fn store(addr: u32, size: Size, value: u32) -> Action
 }
 
 /// What an instruction is to do at this pc, with these registers.
+// Inlined: what is to be done needn't be made as a value where it is done at once.
 #[inline(always)]
 pub fn read_action(core: &Core, inst: &Inst) -> Action
     requires { IsEncodable inst.now }

@@ -2,7 +2,7 @@ ghost use Rattle.std.specs.Prelude.{◌≡◌, ◌<◌, ◌%◌, OnOk, OnErr};
 ghost use Rattle.rv_exec.specs.Bytes as bytes;
 ghost use Rattle.rv_exec.specs.declared.event.TrapKind.TheVariants as trap;
 ghost use Rattle.rv_exec.specs.Machine.{state, Leads};
-ghost use Rattle.rv_exec.specs.Next as meaning;
+ghost use Rattle.rv_exec.specs.Data as meaning;
 
 use crate::action::Size;
 use crate::bytes::{loaded, size_of, with_part};
@@ -11,6 +11,9 @@ use crate::finish::{compute, go_on};
 use crate::memory::Memory;
 use crate::state::Core;
 use rv_isa::Decoded;
+
+// `inline(always)` stands on all that a step calls: a call would hand the event, a record of some 60
+// bytes, through memory, which costs more than the instruction itself.
 
 /// A load. A load of a whole word has code of its own, which asks for no size.
 #[inline(always)]

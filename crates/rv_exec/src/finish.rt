@@ -3,11 +3,14 @@ ghost use Rattle.rv_exec.specs.Word as words;
 ghost use Rattle.rv_exec.specs.Memory.{Words, Buffers};
 ghost use Rattle.rv_exec.specs.Machine as machine;
 ghost use Rattle.rv_exec.specs.Machine.{state, Went, Leads};
-ghost use Rattle.rv_exec.specs.Next as meaning;
+ghost use Rattle.rv_exec.specs.Finish as meaning;
 
 use crate::event::{Buffer, DataRef, Event, Flow, TrapKind};
 use crate::state::Core;
 use rv_isa::Decoded;
+
+// `inline(always)` stands on all that a step calls: a call would hand the event, a record of some 60
+// bytes, through memory, which costs more than the instruction itself.
 
 /// The address of the instruction behind the one at `pc`.
 #[inline(always)]
@@ -32,7 +35,7 @@ pub fn set_register(core: &mut Core, rd: u8, value: u32)
 }
 
 /// Ends an instruction that is done but for its pc, and tells what it did.
-#[tactic(auto, unfolding(crate::specs::Next::completes))]
+#[tactic(auto, unfolding(crate::specs::Finish::completes))]
 #[inline(always)]
 pub fn complete(
     core: &mut Core,
@@ -65,7 +68,7 @@ pub fn complete(
 }
 
 /// The same, where the instruction behind it comes next.
-#[tactic(auto, unfolding(crate::specs::Next::goes_on))]
+#[tactic(auto, unfolding(crate::specs::Finish::goes_on))]
 #[inline(always)]
 pub fn go_on(
     core: &mut Core,
@@ -83,7 +86,7 @@ pub fn go_on(
 }
 
 /// The same, with a value for a register.
-#[tactic(auto, unfolding(crate::specs::Next::computes))]
+#[tactic(auto, unfolding(crate::specs::Finish::computes))]
 #[inline(always)]
 pub fn compute(
     core: &mut Core,
@@ -103,7 +106,7 @@ pub fn compute(
     go_on(core, word, decoded, access, wrote)
 }
 
-#[tactic(auto, unfolding(crate::specs::Next::branches))]
+#[tactic(auto, unfolding(crate::specs::Finish::branches))]
 #[inline(always)]
 pub fn branch(
     core: &mut Core,
@@ -132,7 +135,7 @@ pub fn branch(
     ))
 }
 
-#[tactic(auto, unfolding(crate::specs::Next::jumps))]
+#[tactic(auto, unfolding(crate::specs::Finish::jumps))]
 #[inline(always)]
 pub fn jump(
     core: &mut Core,

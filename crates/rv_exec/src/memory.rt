@@ -1,4 +1,4 @@
-ghost use Rattle.std.specs.Prelude.{◌≡◌, ℕ, Bool, is_some, if◌then◌else◌};
+ghost use Rattle.std.specs.Prelude.{◌≡◌, ◌%◌, ℕ, Bool, IsSome, is_some, if◌then◌else◌};
 ghost use Rattle.rv_exec.specs.Memory.{Words, Buffers, word_at, stored, passes};
 
 /// A memory of words of four bytes, each at an address that is a multiple of 4.
@@ -13,10 +13,12 @@ pub trait Memory {
 
     ghost sound: { Self → Type 0 };
 
-    /// The word at an address, `None` exactly where it is not held.
+    /// The word at an address, `None` exactly where it is not held. Words are held at multiples of 4
+    /// alone.
     fn load_word(&self, addr: u32) -> Option<u32>
         requires { sound self.now }
-        ensures { result ≡ word_at (words self.now) addr };
+        ensures value { result ≡ word_at (words self.now) addr }
+        ensures aligned { IsSome result → addr % 4 ≡ 0 };
 
     /// Changes a word, and tells whether it is held. Where it is not, nothing changes.
     fn store_word(&mut self, addr: u32, value: u32) -> bool

@@ -1,7 +1,7 @@
 ghost use Rattle.std.specs.Prelude.{◌≡◌, None, IfOk, OnErr};
 ghost use Rattle.rv_isa.specs.Table.{IsEncodable};
-ghost use Rattle.rv_exec.specs.Actions.{action_of};
-ghost use Rattle.rv_exec.specs.Events.{IsWellFormed};
+ghost use Rattle.rv_exec.specs.Action.{action_of};
+ghost use Rattle.rv_exec.specs.Event.{IsWellFormed};
 ghost use Rattle.rv_exec.specs.Machine.{state, Leads, Follows};
 ghost use Rattle.rv_exec.specs.Next as meaning;
 
@@ -13,6 +13,9 @@ use crate::finish::{branch, compute, go_on, jump};
 use crate::memory::Memory;
 use crate::state::Core;
 use rv_isa::{Decoded, Decoder, decode};
+
+// `inline(always)` stands on all that a step calls: a call would hand the event, a record of some 60
+// bytes, through memory, which costs more than the instruction itself.
 
 /// Executes the instruction at `core.pc`.
 ///

@@ -41,6 +41,7 @@ impl Block {
     }
 
     /// The word of that number.
+    // Inlined, as `set` is: every fetch, load and store comes here.
     #[inline(always)]
     pub fn get(&self, at: usize) -> Option<u32>
         ensures { result ≡ slice_get self.now at }
@@ -71,6 +72,7 @@ impl Block {
 }
 
 /// Fills the front with zeros up to a word past its end, and a page further where there is one.
+// Out of the way of `set`: few stores come here, since each fills a page.
 #[cold]
 #[inline(never)]
 fn grow(front: &mut Vec<u32>, at: usize, size: usize)

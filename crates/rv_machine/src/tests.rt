@@ -77,7 +77,7 @@ fn machine_of(alloc: Global, words: &[u32], keep_output: bool) -> Option<Whole>
 }
 
 /// How the run of these words ends, and what it wrote.
-fn run_of(
+fn run_words(
     alloc: Global,
     words: &[u32],
     keep_output: bool,
@@ -239,13 +239,13 @@ const PROGRAMS: [(&str, &[u32], u64, Outcome, &[u8]); 12] = [
 #[test]
 fn programs(rt: HostRuntime) {
     for (name, words, budget, outcome, output) in PROGRAMS {
-        let kept = run_of(rt.alloc(), words, true, budget);
+        let kept = run_words(rt.alloc(), words, true, budget);
         assert!(rt; kept.is_some(), "at {name}");
         if let Some((end, wrote)) = kept {
             assert_eq!(rt; end, outcome, "at {name}");
             assert_eq!(rt; wrote.as_slice(), output, "at {name}");
         }
-        let dropped = run_of(rt.alloc(), words, false, budget);
+        let dropped = run_words(rt.alloc(), words, false, budget);
         assert!(rt; dropped.is_some(), "at {name}");
         if let Some((end, wrote)) = dropped {
             assert_eq!(rt; end, outcome, "at {name}");

@@ -10,7 +10,8 @@ use Rattle.image_maker.specs.Image.{image_file}
 use Rattle.ordered_fold.specs.Ending.{ending_of, sums_at_end}
 use Rattle.rv_machine.specs.declared.outcome.Outcome.{Outcome}
 use Rattle.rv_machine.specs.declared.outcome.Outcome.TheVariants.{Exited, Trapped, Spent}
-use Rattle.rv_machine.specs.Running.{outcome_of, output_after}
+use Rattle.rv_machine.specs.Outcome.{outcome_of}
+use Rattle.rv_machine.specs.Output.{output_after}
 use Rattle.rv_machine.specs.Start.{start_of}
 use Rattle.sample_design.specs.declared.design.Design.{Design}
 use Rattle.sample_design.specs.declared.units.UnitsFault.{UnitsFault}

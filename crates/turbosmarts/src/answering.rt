@@ -6,7 +6,7 @@ ghost use Rattle.rv_machine.specs.Machine.{started};
 ghost use Rattle.confidence.specs.declared.answer.Answer.TheVariants.{Cycles};
 ghost use Rattle.hierarchy.specs.declared.config.Config.{Config as ConfigValue};
 ghost use Rattle.hierarchy.specs.Config.{IsConfig};
-ghost use Rattle.rv_machine.specs.Running.{outcome_of};
+ghost use Rattle.rv_machine.specs.Outcome.{outcome_of};
 ghost use Rattle.turbosmarts.specs.Units.{unit_answers, whole_answer};
 ghost use Rattle.confidence.specs.Confidence.{IsInRange};
 ghost use Rattle.elf_image.specs.Image.{image_of};

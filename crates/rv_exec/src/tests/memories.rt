@@ -1,6 +1,6 @@
-ghost use Rattle.std.specs.Prelude.{ℕ};
+ghost use Rattle.std.specs.Prelude.{◌≡◌, ◌%◌, ℕ};
 ghost use Rattle.rv_exec.specs.Memory.{Every, Mapped};
-ghost use Rattle.rv_exec.specs.Memories.{flat_words, two_words};
+ghost use Rattle.rv_exec.specs.Tests.Memories.{flat_words, two_words};
 
 use crate::Memory;
 
@@ -11,6 +11,7 @@ pub struct Pair {
     pub code: u32,
     pub data_at: u32,
     pub data: u32,
+    pub ghost aligned: { (code_at % 4 ≡ 0) × (data_at % 4 ≡ 0) },
 }
 
 impl Memory for Pair {
@@ -20,7 +21,7 @@ impl Memory for Pair {
 
     ghost sound = { λ s. Unit {0} };
 
-    #[tactic(auto, using(crate::proofs::Memories::word_at_two))]
+    #[tactic(auto, using(crate::proofs::Tests::MemoriesLemmas::word_at_two))]
     fn load_word(&self, addr: u32) -> Option<u32> {
         if addr == self.code_at {
             return Some(self.code);
@@ -31,7 +32,7 @@ impl Memory for Pair {
         None
     }
 
-    #[tactic(auto, using(crate::proofs::Memories::word_at_two, crate::proofs::Memories::store_first, crate::proofs::Memories::store_second))]
+    #[tactic(auto, using(crate::proofs::Tests::MemoriesLemmas::word_at_two, crate::proofs::Tests::MemoriesLemmas::store_first, crate::proofs::Tests::MemoriesLemmas::store_second))]
     fn store_word(&mut self, addr: u32, value: u32) -> bool {
         if addr == self.code_at {
             self.code = value;
@@ -63,7 +64,7 @@ impl Memory for Flat {
 
     ghost sound = { λ s. Unit {0} };
 
-    #[tactic(auto, using(crate::proofs::Memories::word_at_flat))]
+    #[tactic(auto, using(crate::proofs::Tests::MemoriesLemmas::word_at_flat))]
     fn load_word(&self, addr: u32) -> Option<u32> {
         let place = (addr / 4) as usize;
         if addr % 4 == 0 && place < self.words.len() {
@@ -73,7 +74,7 @@ impl Memory for Flat {
         }
     }
 
-    #[tactic(auto, using(crate::proofs::Memories::word_at_flat, crate::proofs::Memories::store_flat))]
+    #[tactic(auto, using(crate::proofs::Tests::MemoriesLemmas::word_at_flat, crate::proofs::Tests::MemoriesLemmas::store_flat))]
     fn store_word(&mut self, addr: u32, value: u32) -> bool {
         let place = (addr / 4) as usize;
         if addr % 4 == 0 && place < self.words.len() {

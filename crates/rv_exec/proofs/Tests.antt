@@ -1,0 +1,2 @@
+-- Lemmas that only the tests cite.
+pub mod MemoriesLemmas
