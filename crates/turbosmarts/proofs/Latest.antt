@@ -21,7 +21,7 @@ use Rattle.rv_exec.specs.declared.event.Event.{Event}
 use Rattle.sample_design.specs.declared.units.Window.{Window}
 use Rattle.turbosmarts.specs.Processors.{HasMarked}
 use Rattle.turbosmarts.specs.Shown.{marks_of, window_cycles, IsAtEnd, IsTimeable}
-use Rattle.turbosmarts.specs.Units.{cycles_by}
+use Rattle.unit_answers.specs.Answers.{cycles_by}
 
 -- the last of a list, and of one with one more
 kept_more :

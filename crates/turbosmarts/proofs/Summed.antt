@@ -19,7 +19,7 @@ use Rattle.rv_exec.specs.declared.event.Event.{Event}
 use Rattle.sample_design.specs.declared.units.Window.{Window}
 use Rattle.turbosmarts.specs.Processors.{HasSummed, latencies_since}
 use Rattle.turbosmarts.specs.Shown.{marks_of, window_cycles, IsAtEnd, IsTimeable}
-use Rattle.turbosmarts.specs.Units.{cycles_by}
+use Rattle.unit_answers.specs.Answers.{cycles_by}
 
 -- marking an instruction leaves its class
 classes_kept :

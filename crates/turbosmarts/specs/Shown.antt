@@ -7,7 +7,7 @@ use Rattle.hierarchy.specs.Runs.{marks, run_of}
 use Rattle.rv_exec.specs.declared.event.Event.{Event}
 use Rattle.rv_exec.specs.Machine.{State}
 use Rattle.sample_design.specs.declared.units.Window.{Window}
-use Rattle.turbosmarts.specs.Units.{cycles_of}
+use Rattle.unit_answers.specs.Answers.{cycles_of}
 
 -- the first so many instructions of a run
 abbrev pub events_to : State → ℕ → List Event
