@@ -40,9 +40,9 @@ fn usual(alloc: Global, key: &Key) -> Result<String, NoMemory> {
     Ok(text)
 }
 
-// What stands between two texts: behind the first place of the one, in front of the next of the other.
+// What stands between two texts: behind the last place of the one, in front of the next of the other.
 fn between<'a>(text: &'a str, start: &str, end: &str) -> Option<&'a str> {
-    let (_, behind) = text.split_once(start)?;
+    let (_, behind) = text.rsplit_once(start)?;
     let (found, _) = behind.split_once(end)?;
     Some(found)
 }
