@@ -1,5 +1,4 @@
-pub mod Found
-pub mod InRange
-pub mod RunParts
-pub mod Traces
-pub mod Warms
+pub mod LookupLemmas
+pub mod MarkedLemmas
+pub mod TraceLemmas
+pub mod WarmingLemmas

@@ -1,11 +1,12 @@
--- Laws of runs, of their marks, and of the caches and the predictor that they leave.
+-- Laws of marks and traces, and of the caches and the predictor that instructions leave.
 use Rattle.std.specs.Prelude.{◌≡◌, ℕ, ◌+◌, ◌<◌, Some, None, Ok, Err, List, [], ◌∷◌, ◌++◌, drop, take, length, All}
 use Rattle.lru_plain.specs.Shape.{Shape}
 use Rattle.predictor.specs.declared.kind.PredictorKind.{PredictorKind}
 use Rattle.rv_exec.specs.Machine as machine
 use Rattle.rv_exec.specs.Machine.{Went, Stopped}
 use Rattle.rv_exec.specs.Next.{next}
-use Rattle.rv_exec.specs.Events.{IsWellFormed}
+use Rattle.rv_exec.specs.Runs.{Trapped, AfterExit, run_of}
+use Rattle.rv_exec.specs.Event.{IsWellFormed}
 use Rattle.rv_exec.specs.declared.event.Event.{Event}
 use Rattle.rv_exec.specs.declared.event.TrapKind.{TrapKind}
 use Rattle.hierarchy.specs.declared.marked.Marked.{Marked}
@@ -14,28 +15,11 @@ use Rattle.hierarchy.specs.declared.state.State.{State}
 use Rattle.hierarchy.specs.declared.widths.Latencies.{Latencies}
 use Rattle.hierarchy.specs.Marked.{IsMarked}
 use Rattle.hierarchy.specs.Widths.{AreLatencies}
-use Rattle.hierarchy.specs.References.{warmed}
-use Rattle.hierarchy.specs.Runs.{Trapped, AfterExit, run_of, joined, after_events, marks, trace, IsAnnotated}
+use Rattle.hierarchy.specs.State.{after_events}
+use Rattle.hierarchy.specs.Trace.{marks, trace, IsAnnotated}
+use Rattle.hierarchy.specs.Warming.{warmed}
 
--- a run can be cut at any instruction: it is a first part, and a second one from where that came to
-abbrev pub RunsSplit : Type 0
-RunsSplit =
-    (m : machine.State) (a b : ℕ)
-    → run_of m (a + b) ≡ joined (run_of m a) (run_of (run_of m a).after b)
-
--- a run that doesn't end early has as many instructions as it was asked for
-abbrev pub RunsAreWhole : Type 0
-RunsAreWhole =
-    (m : machine.State) (n : ℕ) → (run_of m n).halt ≡ None → length (run_of m n).events ≡ n
-
--- a run grows by the instruction that comes next
-abbrev pub RunsGrow : Type 0
-RunsGrow =
-    (m now after : machine.State) (n : ℕ) (e : Event) → now ≡ (run_of m n).after → now.exit ≡ None
-    → next now ≡ Went e after
-    → run_of m (n + 1) ≡ joined (run_of m n) (record { events = e ∷ []; after = after; halt = None })
-
--- marks can be cut at any instruction too
+-- marks can be cut at any instruction
 abbrev pub MarksSplit : Type 0
 MarksSplit =
     (l : Latencies) (s : State) (es fs : List Event)
@@ -101,10 +85,7 @@ MarksAreInRange =
     (l : Latencies) (s : State) (es : List Event) → AreLatencies l → All IsWellFormed es
     → All IsMarked (marks l s es)
 
-pub record AreRuns : Type 0 where
-  pub runs_split : RunsSplit
-  pub runs_whole : RunsAreWhole
-  pub runs_grow : RunsGrow
+pub record AreTraces : Type 0 where
   pub marks_split : MarksSplit
   pub marks_in_range : MarksAreInRange
   pub feeding : FeedingWarms

@@ -1,8 +1,9 @@
 pub mod Config
-pub mod Marked
-pub mod Widths
 pub mod Lending
-pub mod Marking
-pub mod References
-pub mod Runs
+pub mod Lookup
+pub mod Marked
+pub mod State
+pub mod Trace
+pub mod Warming
+pub mod Widths
 pub mod Laws

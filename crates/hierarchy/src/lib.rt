@@ -13,7 +13,7 @@ mod tests;
 mod widths;
 
 pub use config::{Config, ConfigFault};
-pub use laws::run_laws;
+pub use laws::trace_laws;
 pub use marked::Marked;
 pub use places::Places;
 pub use state::State;

@@ -1,7 +1,7 @@
 ghost use Rattle.std.specs.Prelude.{◌≡◌, ◌≤◌};
 ghost use Rattle.std.specs.Option.{option_map};
 ghost use Rattle.hierarchy.specs.Widths.{AreLatencies};
-ghost use Rattle.hierarchy.specs.Marking.{is_hit, touched_at, fetch_hits, fetched, data_hits, referred, delay, latency_of};
+ghost use Rattle.hierarchy.specs.Lookup.{is_hit, touched_at, fetch_hits, after_fetch, data_hits, after_reference, delay, latency_of};
 
 use crate::places::Places;
 use crate::widths::Latencies;
@@ -45,7 +45,7 @@ fn touch(cache: &mut PlainCache, addr: u32) -> bool
 /// Fetches the instruction at an address.
 pub(crate) fn fetch(caches: &mut Places<PlainCache>, pc: u32) -> Hits
     ensures hits { result ≡ fetch_hits caches.old pc }
-    ensures caches { caches.new ≡ fetched caches.old pc }
+    ensures caches { caches.new ≡ after_fetch caches.old pc }
 {
     let tlb = touch(&mut caches.itlb, pc);
     let first = touch(&mut caches.l1i, pc);
@@ -56,7 +56,7 @@ pub(crate) fn fetch(caches: &mut Places<PlainCache>, pc: u32) -> Hits
 /// Makes a load's or store's reference to data, if there is one.
 pub(crate) fn refer(caches: &mut Places<PlainCache>, access: Option<DataRef>) -> Option<Hits>
     ensures hits { result ≡ option_map (data_hits caches.old) access }
-    ensures caches { caches.new ≡ referred caches.old access }
+    ensures caches { caches.new ≡ after_reference caches.old access }
 {
     let addr = access?.addr;
     let tlb = touch(&mut caches.dtlb, addr);

@@ -3,7 +3,7 @@ ghost use Rattle.std.specs.Borrow.{sem};
 ghost use Rattle.lru_plain.specs.Shape.{Shape};
 ghost use Rattle.predictor.specs.declared.kind.PredictorKind.{PredictorKind};
 ghost use Rattle.rv_exec.specs.declared.event.Event.{Event};
-ghost use Rattle.rv_exec.specs.Events.{IsWellFormed};
+ghost use Rattle.rv_exec.specs.Event.{IsWellFormed};
 ghost use Rattle.rv_exec.specs.Machine as machine;
 ghost use Rattle.rv_exec.specs.Machine.{Went};
 ghost use Rattle.rv_exec.specs.Next.{next};
@@ -13,10 +13,10 @@ ghost use Rattle.hierarchy.specs.declared.state.State.{State};
 ghost use Rattle.hierarchy.specs.Config.{IsConfig};
 ghost use Rattle.hierarchy.specs.Widths.{AreLatencies};
 ghost use Rattle.hierarchy.specs.Marked.{IsMarked};
-ghost use Rattle.hierarchy.specs.Marking.{mark_of, after_event, is_transferred};
+ghost use Rattle.hierarchy.specs.State.{mark_of, after_event, is_taken};
 ghost use Rattle.hierarchy.specs.Lending.{LendsCaches, LendsPredictor};
-ghost use Rattle.hierarchy.specs.References.{warmed};
-ghost use Rattle.hierarchy.specs.Runs.{IsAnnotated};
+ghost use Rattle.hierarchy.specs.Trace.{IsAnnotated};
+ghost use Rattle.hierarchy.specs.Warming.{warmed};
 
 use crate::config::Config;
 use crate::lookup::{fetch, latency_of, refer};
@@ -36,8 +36,8 @@ pub struct State {
     predictor: Predictor,
 }
 
-fn is_transferred(control: Flow) -> bool
-    ensures { result ≡ is_transferred control }
+fn is_taken(control: Flow) -> bool
+    ensures { result ≡ is_taken control }
 {
     match control {
         Flow::Straight => false,
@@ -82,7 +82,7 @@ impl State {
 
     /// Makes the references of one instruction and learns from it. Answers its marks.
     #[inline]
-    #[tactic(auto, unfolding(crate::specs::Marking::mark_of, crate::specs::Marking::after_event))]
+    #[tactic(auto, unfolding(crate::specs::State::mark_of, crate::specs::State::after_event))]
     fn mark(&mut self, latencies: &Latencies, event: &Event) -> Marked
         requires { AreLatencies latencies.now }
         ensures mark { result ≡ mark_of latencies.now self.old event.now }
@@ -100,7 +100,7 @@ impl State {
             stall: fetched.delay(latencies),
             latency: latency_of(latencies, event.class, referred),
             mispredicted: self.predictor.observe(event),
-            transferred: is_transferred(event.control),
+            transferred: is_taken(event.control),
         }
     }
 

@@ -368,6 +368,6 @@ fn marks_transfers(rt: HostRuntime) -> Result<(), Fail> {
         image.counters(),
         [3, 1, 1, 1, 1, 1, 1, 1, 1, 1, 1, 1, 1, 1, 1, 1].as_slice()
     );
-    run_laws();
+    trace_laws();
     Ok(())
 }

@@ -8,8 +8,8 @@ use Rattle.rv_exec.specs.declared.action.Action.TheVariants as action
 use Rattle.rv_exec.specs.Arithmetic.{sum_of}
 use Rattle.rv_exec.specs.Word.{word}
 use Rattle.rv_exec.specs.Machine.{State, write}
-use Rattle.rv_exec.specs.Actions.{action_of}
-use Rattle.rv_machine.specs.Running.{state_after}
+use Rattle.rv_exec.specs.Action.{action_of}
+use Rattle.rv_exec.specs.Runs.{run_of}
 use Rattle.rv_machine.specs.Start.{start_registers}
 use Rattle.image_maker.specs.Program.{start, program}
 use Rattle.image_maker.proofs.Positions.{first_five}
@@ -43,7 +43,7 @@ pub begins :
     (from : State) (size seed : ℕ)
     → size ≤ 1_000_000 → from.regs ≡ start_registers → IsNext (program size seed) 0 from
     → Stands from (program size seed) 5 5 size
-unfolding start state_after sum_of
+unfolding start run_of sum_of
 begins from size seed most fresh first =
     let code : List Inst = program size seed in
     let high : ℕ = 4096 * ((size + 2048) / 4096) in

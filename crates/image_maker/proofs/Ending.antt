@@ -6,8 +6,8 @@ use Rattle.elf_image.proofs.Loaded.{is_image}
 use Rattle.rv_exec.specs.Memory.{word_at}
 use Rattle.rv_exec.specs.Machine.{State}
 use Rattle.rv_machine.specs.Start.{start_of, start_registers}
-use Rattle.rv_machine.proofs.Ends.{exits_where}
-use Rattle.rv_machine.proofs.Starts.{starts_with}
+use Rattle.rv_machine.proofs.OutcomeLemmas.{exits_where}
+use Rattle.rv_machine.proofs.StartLemmas.{starts_with}
 use Rattle.image_maker.specs.Image.{image_file}
 use Rattle.image_maker.specs.Program.{program}
 use Rattle.image_maker.specs.Runs.{EachRunsToItsEnd}

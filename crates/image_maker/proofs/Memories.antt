@@ -2,7 +2,7 @@
 use Rattle.std.proofs.Common.{◌≡◌, ◌≢◌, ℕ, Some, refl, ◌∙◌, eq-eqb}
 use Rattle.std.proofs.lemmas.Bool.{ne_eqb}
 use Rattle.rv_exec.specs.Memory.{Words, word_at, stored}
-use Rattle.rv_machine.proofs.Finds.{get_stored}
+use Rattle.rv_machine.proofs.ProgramMemoryLemmas.{get_stored}
 
 pub stored_here : (words : Words) (at value : ℕ) → word_at (stored words at value) at ≡ Some value
 stored_here words at value = get_stored words at value at ∙ (rw (eq-eqb at at refl) refl)

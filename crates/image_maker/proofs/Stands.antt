@@ -12,7 +12,7 @@ use Rattle.rv_exec.specs.declared.action.Size.TheVariants as size
 use Rattle.rv_exec.specs.Word.{following}
 use Rattle.rv_exec.specs.Memory.{Words, word_at, stored}
 use Rattle.rv_exec.specs.Machine.{State, write}
-use Rattle.rv_exec.specs.Actions.{action_of}
+use Rattle.rv_exec.specs.Action.{action_of}
 use Rattle.image_maker.specs.Choice.{IsDrawnRegister}
 use Rattle.image_maker.proofs.Memories.{stored_here, stored_there}
 use Rattle.image_maker.proofs.Steps.{IsAt, IsReady, IsUsed, Leads, goes, computed, loads, stores, branched, target_of}

@@ -18,11 +18,14 @@ use Rattle.rv_exec.specs.Memory.{Words, word_at, stored}
 use Rattle.rv_exec.specs.declared.event.DataRef.{DataRef}
 use Rattle.rv_exec.specs.declared.event.TrapKind.{TrapKind}
 use Rattle.rv_exec.specs.Machine.{State, Outcome, Went, write}
-use Rattle.rv_exec.specs.Actions.{action_of}
-use Rattle.rv_exec.specs.Next as meaning
-use Rattle.rv_exec.specs.Next.{completes, goes_on, computes, branches, data_at, perform, next}
-use Rattle.rv_machine.specs.Running.{moved, state_after}
-use Rattle.rv_machine.specs.Laws.{Reaches}
+use Rattle.rv_exec.specs.Action.{action_of}
+use Rattle.rv_exec.specs.Data.{data_at}
+use Rattle.rv_exec.specs.Data as meaning
+use Rattle.rv_exec.specs.Finish.{completes, goes_on, computes, branches}
+use Rattle.rv_exec.specs.Next.{perform, next}
+use Rattle.rv_exec.specs.Runs.{state_after}
+use Rattle.rv_exec.proofs.RunsLemmas.{moved, state_behind}
+use Rattle.rv_machine.specs.Outcome.{Reaches}
 
 -- ---- words and instructions
 
@@ -106,12 +109,11 @@ pub goes :
     (start : State) (n : ℕ) (now after : State) (event : Event)
     → IsAt start n now → now.exit ≡ None → next now ≡ Went event after → after.exit ≡ None
     → IsAt start (n + 1) after
-unfolding state_after
 goes start n now after event at running went on =
     let here : next (state_after start n) ≡ Went event after = ap next at.state ∙ went in
     let exit : (state_after start n).exit ≡ None = ap (λ (s : State). s.exit) at.state ∙ running in
     record {
-      state = rw add-one (moved_on _ _ event _ after exit here);
+      state = state_behind start n ∙ moved_on _ _ event _ after exit here;
       before =
           λ k h.
           elim (cases_lt k n) [

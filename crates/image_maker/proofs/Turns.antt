@@ -9,8 +9,9 @@ use Rattle.rv_exec.specs.declared.event.Event.{Event}
 use Rattle.rv_isa.specs.Encoding.{word_of}
 use Rattle.rv_exec.specs.Word.{following, offset_by, word}
 use Rattle.rv_exec.specs.Machine.{State, Went, write}
-use Rattle.rv_exec.specs.Next.{calls, exits, next}
-use Rattle.rv_machine.specs.Laws.{Does, Reaches}
+use Rattle.rv_exec.specs.Calls.{calls, exits}
+use Rattle.rv_exec.specs.Next.{next}
+use Rattle.rv_machine.specs.Outcome.{Does, Reaches}
 use Rattle.image_maker.specs.Choice.{draw_of, kind_of, state_behind, choice_from}
 use Rattle.image_maker.specs.Program.{program}
 use Rattle.image_maker.proofs.Positions.{is_group, last}

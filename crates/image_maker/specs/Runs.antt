@@ -2,7 +2,7 @@
 use Rattle.std.specs.Prelude.{◌≡◌, ◌<◌, ◌≤◌, ◌+◌, ◌*◌, ℕ, Ok}
 use Rattle.elf_image.specs.Image.{ImageValue, image_of}
 use Rattle.rv_machine.specs.declared.outcome.Outcome.TheVariants.{Exited}
-use Rattle.rv_machine.specs.Running.{outcome_of}
+use Rattle.rv_machine.specs.Outcome.{outcome_of}
 use Rattle.rv_machine.specs.Start.{start_of}
 use Rattle.image_maker.specs.Image.{image_file}
 

@@ -10,3 +10,4 @@ pub mod Retire
 pub mod Issue
 pub mod Dispatch
 pub mod Fetch
+pub mod Machine

@@ -1,10 +1,15 @@
-pub mod Actions
+pub mod Action
 pub mod Arithmetic
 pub mod Bytes
-pub mod Events
+pub mod Calls
+pub mod Data
+pub mod Event
+pub mod Finish
 pub mod Machine
 pub mod Memories
 pub mod Memory
 pub mod Next
+pub mod References
+pub mod Runs
 pub mod Steps
 pub mod Word

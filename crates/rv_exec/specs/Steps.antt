@@ -1,5 +1,5 @@
 -- What holds of every step that is done, whatever the instruction is.
-use Rattle.std.specs.Prelude.{◌≡◌, ℕ, ◌-◌, ◌%◌, Option, Some, None, IfSome}
+use Rattle.std.specs.Prelude.{◌≡◌, ◌≤◌, ◌⊎◌, ℕ, ◌+◌, ◌-◌, ◌%◌, ◌^◌, Option, Some, None, IfSome}
 use Rattle.std.specs.Option.{option_map}
 use Rattle.rv_exec.specs.declared.event.Event.{Event}
 use Rattle.rv_exec.specs.declared.event.DataRef.{DataRef}
@@ -25,6 +25,10 @@ applied None words = words
 abbrev pub over : State → Words → State
 over s words = record s { words = words; buffers = Every }
 
+-- a heap end that a step may leave: that of before, or one in the heap's 64 MiB
+abbrev pub IsHeapEnd : State → ℕ → Type 0
+IsHeapEnd s brk = (brk ≡ s.brk) ⊎ ((s.heap_low ≤ brk) × (brk ≤ s.heap_low + 2 ^ 26))
+
 -- one step from s tells the event and leads to the state after it
 pub record Stepped (s : State) (e : Event) (after : State) : Type 0 where
   pub write : Option (ℕ × ℕ)
@@ -37,6 +41,7 @@ pub record Stepped (s : State) (e : Event) (after : State) : Type 0 where
   pub held : HoldsData s.words e.access
   pub moves : after.pc ≡ e.next
   pub heap_low : after.heap_low ≡ s.heap_low
+  pub heap_end : IsHeapEnd s after.brk
   pub buffers : after.buffers ≡ s.buffers
   -- over any words that hold what was found, the step goes the same way
   pub again :

@@ -2,7 +2,7 @@ ghost use Rattle.std.specs.Prelude.{◌≡◌, ◌<◌, ◌==◌, ◌&&◌, not,
 ghost use Rattle.rv_isa.specs.Table.{IsEncodable};
 ghost use Rattle.rv_exec.specs.Word as words;
 ghost use Rattle.rv_exec.specs.Machine as machine;
-ghost use Rattle.rv_exec.specs.Actions as actions;
+ghost use Rattle.rv_exec.specs.Action as actions;
 ghost use Rattle.rv_exec.specs.declared.action.Action.TheVariants as tasks;
 ghost use Rattle.rv_exec.specs.declared.event.Flow.TheVariants as flows;
 

@@ -71,7 +71,7 @@ pub fn product_high_signed(a: u32, b: u32) -> u32
     upper(i64::from(a.cast_signed()) * i64::from(b.cast_signed()))
 }
 
-#[tactic(auto, using(crate::proofs::Products::mixed_product), unfolding(crate::specs::Arithmetic::product_high_mixed))]
+#[tactic(auto, using(crate::proofs::ArithmeticLemmas::mixed_product), unfolding(crate::specs::Arithmetic::product_high_mixed))]
 pub fn product_high_mixed(a: u32, b: u32) -> u32
     ensures { result ≡ meaning.product_high_mixed a b }
 {

@@ -1,7 +1,7 @@
 ghost use Rattle.std.specs.Prelude.{◌≡◌, OnErr};
 ghost use Rattle.rv_exec.specs.Memory.{Words, Buffers};
 ghost use Rattle.rv_exec.specs.Machine.{state, Went, Leads};
-ghost use Rattle.rv_exec.specs.Next as meaning;
+ghost use Rattle.rv_exec.specs.Calls as meaning;
 
 use crate::action::read;
 use crate::event::{Buffer, Event, TrapKind};
@@ -15,7 +15,7 @@ const HEAP_LIMIT: u32 = 0x0400_0000;
 
 /// An environment call: its number is in register 17, its arguments in 10 to 12, its answer goes
 /// to 10.
-#[tactic(auto, unfolding(crate::specs::Next::calls))]
+#[tactic(auto, unfolding(crate::specs::Calls::calls))]
 pub fn call<M: Memory>(
     core: &mut Core,
     memory: &M,
@@ -45,7 +45,7 @@ fn answer(core: &mut Core, word: u32, decoded: &Decoded, value: u32, wrote: Opti
     compute(core, word, decoded, 10, value, None, wrote)
 }
 
-#[tactic(auto, unfolding(crate::specs::Next::writes))]
+#[tactic(auto, unfolding(crate::specs::Calls::writes))]
 fn write<M: Memory>(
     core: &mut Core,
     memory: &M,
@@ -74,7 +74,7 @@ fn write<M: Memory>(
     Ok(answer(core, word, decoded, len, Some(Buffer { addr, len })))
 }
 
-#[tactic(auto, unfolding(crate::specs::Next::exits))]
+#[tactic(auto, unfolding(crate::specs::Calls::exits))]
 fn exit(core: &mut Core, word: u32, decoded: &Decoded) -> Event
     ensures { (m : Words) (b : Buffers)
         → meaning.exits (state core.old m b) word decoded.now.inst ≡ Went result (state core.new m b) }
@@ -83,7 +83,7 @@ fn exit(core: &mut Core, word: u32, decoded: &Decoded) -> Event
     go_on(core, word, decoded, None, None)
 }
 
-#[tactic(auto, unfolding(crate::specs::Next::sets_break))]
+#[tactic(auto, unfolding(crate::specs::Calls::sets_break))]
 fn set_break(core: &mut Core, word: u32, decoded: &Decoded) -> Event
     ensures { (m : Words) (b : Buffers)
         → meaning.sets_break (state core.old m b) word decoded.now.inst

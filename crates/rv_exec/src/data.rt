@@ -2,7 +2,7 @@ ghost use Rattle.std.specs.Prelude.{◌≡◌, ◌<◌, ◌%◌, OnOk, OnErr};
 ghost use Rattle.rv_exec.specs.Bytes as bytes;
 ghost use Rattle.rv_exec.specs.declared.event.TrapKind.TheVariants as trap;
 ghost use Rattle.rv_exec.specs.Machine.{state, Leads};
-ghost use Rattle.rv_exec.specs.Next as meaning;
+ghost use Rattle.rv_exec.specs.Data as meaning;
 
 use crate::action::Size;
 use crate::bytes::{loaded, size_of, with_part};

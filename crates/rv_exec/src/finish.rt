@@ -3,7 +3,7 @@ ghost use Rattle.rv_exec.specs.Word as words;
 ghost use Rattle.rv_exec.specs.Memory.{Words, Buffers};
 ghost use Rattle.rv_exec.specs.Machine as machine;
 ghost use Rattle.rv_exec.specs.Machine.{state, Went, Leads};
-ghost use Rattle.rv_exec.specs.Next as meaning;
+ghost use Rattle.rv_exec.specs.Finish as meaning;
 
 use crate::event::{Buffer, DataRef, Event, Flow, TrapKind};
 use crate::state::Core;
@@ -32,7 +32,7 @@ pub fn set_register(core: &mut Core, rd: u8, value: u32)
 }
 
 /// Ends an instruction that is done but for its pc, and tells what it did.
-#[tactic(auto, unfolding(crate::specs::Next::completes))]
+#[tactic(auto, unfolding(crate::specs::Finish::completes))]
 #[inline(always)]
 pub fn complete(
     core: &mut Core,
@@ -65,7 +65,7 @@ pub fn complete(
 }
 
 /// The same, where the instruction behind it comes next.
-#[tactic(auto, unfolding(crate::specs::Next::goes_on))]
+#[tactic(auto, unfolding(crate::specs::Finish::goes_on))]
 #[inline(always)]
 pub fn go_on(
     core: &mut Core,
@@ -83,7 +83,7 @@ pub fn go_on(
 }
 
 /// The same, with a value for a register.
-#[tactic(auto, unfolding(crate::specs::Next::computes))]
+#[tactic(auto, unfolding(crate::specs::Finish::computes))]
 #[inline(always)]
 pub fn compute(
     core: &mut Core,
@@ -103,7 +103,7 @@ pub fn compute(
     go_on(core, word, decoded, access, wrote)
 }
 
-#[tactic(auto, unfolding(crate::specs::Next::branches))]
+#[tactic(auto, unfolding(crate::specs::Finish::branches))]
 #[inline(always)]
 pub fn branch(
     core: &mut Core,
@@ -132,7 +132,7 @@ pub fn branch(
     ))
 }
 
-#[tactic(auto, unfolding(crate::specs::Next::jumps))]
+#[tactic(auto, unfolding(crate::specs::Finish::jumps))]
 #[inline(always)]
 pub fn jump(
     core: &mut Core,

@@ -20,7 +20,7 @@ mod stepping;
 mod tests;
 
 pub use event::{Buffer, DataRef, Event, Flow, Trap, TrapKind};
-pub use laws::{every_step, mapped_buffers};
+pub use laws::{every_step, mapped_buffers, run_laws};
 pub use memory::Memory;
 pub use state::Core;
 pub use stepping::{step, step_with};

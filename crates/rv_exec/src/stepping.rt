@@ -1,7 +1,7 @@
 ghost use Rattle.std.specs.Prelude.{◌≡◌, None, IfOk, OnErr};
 ghost use Rattle.rv_isa.specs.Table.{IsEncodable};
-ghost use Rattle.rv_exec.specs.Actions.{action_of};
-ghost use Rattle.rv_exec.specs.Events.{IsWellFormed};
+ghost use Rattle.rv_exec.specs.Action.{action_of};
+ghost use Rattle.rv_exec.specs.Event.{IsWellFormed};
 ghost use Rattle.rv_exec.specs.Machine.{state, Leads, Follows};
 ghost use Rattle.rv_exec.specs.Next as meaning;
 

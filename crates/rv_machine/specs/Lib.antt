@@ -1,9 +1,9 @@
 pub mod Block
-pub mod Blocks
-pub mod Codes
-pub mod Machine
-pub mod Output
-pub mod Running
-pub mod Start
-pub mod View
 pub mod Laws
+pub mod Machine
+pub mod MachineCodes
+pub mod Outcome
+pub mod Output
+pub mod ProgramMemory
+pub mod Start
+pub mod Whole

@@ -4,11 +4,12 @@ use Rattle.elf_image.specs.Image.{ImageValue}
 use Rattle.rv_exec.specs.declared.event.Event.{Event}
 use Rattle.rv_exec.specs.Machine.{State, Went, Stopped}
 use Rattle.rv_exec.specs.Next.{next}
+use Rattle.rv_exec.specs.Runs.{state_after, step_at}
 use Rattle.rv_machine.specs.declared.outcome.MachineFault.{MachineFault}
 use Rattle.rv_machine.specs.declared.outcome.MachineFault.TheVariants.{Trap, NoMemory}
-use Rattle.rv_machine.specs.Output.{given}
+use Rattle.rv_machine.specs.Outcome.{is_last}
+use Rattle.rv_machine.specs.Output.{buffer_bytes, step_output, output_after}
 use Rattle.rv_machine.specs.Start.{start_of}
-use Rattle.rv_machine.specs.Running.{state_after, step_at, output_after, written, is_last}
 
 pub record Machine : Type 0 where
   pub state : State
@@ -17,8 +18,8 @@ pub record Machine : Type 0 where
   pub output : List ℕ
 
 -- the output with further bytes, where it is kept
-abbrev pub joined : Bool → List ℕ → List ℕ → List ℕ
-joined keeps output bytes = if keeps then output ++ bytes else output
+abbrev pub output_with : Bool → List ℕ → List ℕ → List ℕ
+output_with keeps output bytes = if keeps then output ++ bytes else output
 
 -- the machine that an image starts
 abbrev pub started : ImageValue → Bool → Machine
@@ -29,20 +30,20 @@ abbrev pub machine_after : Machine → ℕ → Machine
 machine_after start n = record {
   state = state_after start.state n;
   keeps = start.keeps;
-  output = joined start.keeps start.output (output_after start.state n);
+  output = output_with start.keeps start.output (output_after start.state n);
 }
 
 -- the instruction adds at least one byte to an output that is kept
 pub record WantsMemory (machine : Machine) : Type 0 where
   pub keeps : machine.keeps ≡ true
-  pub writes : 0 < length (written None (next machine.state))
+  pub writes : 0 < length (step_output None (next machine.state))
 
 -- what the answer to one instruction tells of the machine before and after it. At a fault it is as
 -- it was
 abbrev pub Advances : Machine → Result Event MachineFault → Machine → Type 0
 Advances old (Ok event) new = (next old.state ≡ Went event new.state)
     × (new.keeps ≡ old.keeps)
-    × (new.output ≡ joined old.keeps old.output (given new.state.words event.wrote))
+    × (new.output ≡ output_with old.keeps old.output (buffer_bytes new.state.words event.wrote))
 Advances old (Err (Trap trap)) new = (next old.state ≡ Stopped trap.kind)
     × (trap.pc ≡ old.state.pc) × (new ≡ old)
 Advances old (Err NoMemory) new = WantsMemory old × (new ≡ old)

@@ -3,7 +3,7 @@ use Rattle.std.specs.Prelude.{ℕ, ◌^◌, List, ◌++◌, replicate, slice_set
 use Rattle.elf_image.specs.Image.{ImageValue}
 use Rattle.rv_exec.specs.Memory.{Words, Mapped}
 use Rattle.rv_exec.specs.Machine.{State}
-use Rattle.rv_machine.specs.Blocks.{words_of}
+use Rattle.rv_machine.specs.ProgramMemory.{words_of}
 
 unfoldable pub zeros : ℕ → List ℕ
 zeros count = replicate count 0

@@ -1,12 +1,10 @@
-ghost use Rattle.rv_machine.specs.Laws.{ExitsWhere, TrapsWhere, SpendsWhere, StartWords};
+ghost use Rattle.rv_machine.specs.Laws.{OutcomesAre, StartWords};
 
-/// Laws of `outcome_of`, which say how a run ends without a least number: a run exits exactly where
+/// A law of `outcome_of`, which says how a run ends without a least number: a run exits exactly where
 /// every earlier instruction went on and one below the budget exits, and so on for a trap. The
 /// budget is spent exactly where every instruction below it went on.
 pub fn endings()
-    ensures exited { ExitsWhere }
-    ensures trapped { TrapsWhere }
-    ensures spent { SpendsWhere }
+    ensures { OutcomesAre }
 {}
 
 /// A law on `start_of`: which words a program starts with. An address has a word exactly where it

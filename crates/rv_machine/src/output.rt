@@ -18,7 +18,7 @@ fn byte_at<M: Memory>(memory: &M, addr: u32) -> u8
 
 /// Appends the bytes of a buffer to the output. Where memory for them can't be had, the output is
 /// as it was.
-#[tactic(auto, using(crate::proofs::Pushed::bytes_none, crate::proofs::Pushed::bytes_more))]
+#[tactic(auto, using(crate::proofs::OutputLemmas::bytes_none, crate::proofs::OutputLemmas::bytes_more))]
 pub fn append<M: Memory>(output: &mut Vec<u8>, memory: &M, buffer: Buffer) -> Result<(), NoMemory>
     requires sound { M.sound memory.now }
     requires end { buffer.addr + buffer.len ≤ 2 ^ 32 }

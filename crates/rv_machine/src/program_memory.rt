@@ -1,6 +1,6 @@
 ghost use Rattle.std.specs.Prelude.{◌≡◌, ℕ, ◌+◌, ◌*◌, ◌^◌, ◌<◌, ◌≤◌, Bool, is_some, if◌then◌else◌, ◌++◌, IfOk};
 ghost use Rattle.rv_exec.specs.Memory.{Words, Buffers, Mapped, word_at, stored, passes};
-ghost use Rattle.rv_machine.specs.Blocks.{words_of, AreBlocks, IsPlace};
+ghost use Rattle.rv_machine.specs.ProgramMemory.{words_of, AreBlocks, IsPlace};
 ghost use Rattle.rv_machine.specs.Start.{zeros};
 
 use crate::block::Block;
@@ -62,7 +62,7 @@ impl ProgramMemory {
 /// Where the word of an address stands in a block that begins at `base`. The rotation divides by 4,
 /// and takes what is left over to the highest bits: an address that is not a multiple of 4 from the
 /// base on is beyond every block, as one below the base is.
-#[tactic(auto, using(crate::proofs::Places::rotated))]
+#[tactic(auto, using(crate::proofs::PlaceLemmas::rotated))]
 #[inline(always)]
 fn place(addr: u32, base: u32) -> usize
     requires { base ≤ 0x7FF00000 }

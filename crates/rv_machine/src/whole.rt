@@ -1,11 +1,11 @@
 ghost use Rattle.std.specs.Prelude.{◌≡◌, ◌↔◌, ℕ, None, IsSome, IfOk, OnOk, OnErr};
 ghost use Rattle.elf_image.specs.Image.{IsImage};
-ghost use Rattle.rv_exec.specs.Events.{IsWellFormed};
+ghost use Rattle.rv_exec.specs.Event.{IsWellFormed};
 ghost use Rattle.rv_exec.specs.Machine.{state};
 ghost use Rattle.rv_exec.specs.Memory.{Mapped, word_at};
-ghost use Rattle.rv_machine.specs.Blocks.{IsWordAddress};
+ghost use Rattle.rv_machine.specs.ProgramMemory.{IsWordAddress};
 ghost use Rattle.rv_machine.specs.Machine.{started, machine_after, Advances, StandsBefore};
-ghost use Rattle.rv_machine.specs.Running.{outcome_of};
+ghost use Rattle.rv_machine.specs.Outcome.{outcome_of, IsOutcome};
 
 use crate::outcome::{MachineFault, Outcome};
 use crate::output::append;
@@ -40,13 +40,13 @@ pub struct Whole {
 
 impl Model for Whole {
     ghost use Rattle.rv_machine.specs.Machine.{Machine};
-    ghost use Rattle.rv_machine.specs.Codes.{machine_code};
+    ghost use Rattle.rv_machine.specs.MachineCodes.{machine_code};
 
     ghost Value = { Machine };
 
     ghost coded = { machine_code };
 
-    ghost use Rattle.rv_machine.specs.View.{view_of, HasBlocks};
+    ghost use Rattle.rv_machine.specs.Whole.{view_of, HasBlocks};
 
     ghost view = { view_of };
 
@@ -113,6 +113,7 @@ impl Whole {
     pub fn run(&mut self, budget: u64) -> Result<Outcome, NoMemory>
         requires { self.old.state.exit ≡ None }
         ensures outcome { IfOk result (λ outcome. outcome ≡ outcome_of self.old.state budget) }
+        ensures ends { IfOk result (IsOutcome self.old.state budget) }
         ensures machine { OnOk result (self.new ≡ machine_after self.old budget) }
         ensures no_memory { OnErr result (StandsBefore self.old budget self.new) }
     {

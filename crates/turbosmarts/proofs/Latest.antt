@@ -9,19 +9,18 @@ use Rattle.hierarchy.specs.declared.marked.Marked.{Marked}
 use Rattle.hierarchy.specs.declared.state.State.{State}
 use Rattle.hierarchy.specs.declared.widths.Widths.{Widths}
 use Rattle.hierarchy.specs.Marked.{IsMarked}
-use Rattle.hierarchy.specs.Marking.{mark_of}
-use Rattle.hierarchy.specs.References.{warmed}
-use Rattle.hierarchy.specs.Runs.{marks}
-use Rattle.hierarchy.proofs.RunParts.{length-marks}
-use Rattle.hierarchy.proofs.Traces.{marks_more}
-use Rattle.hierarchy.proofs.Warms.{feeding}
+use Rattle.hierarchy.specs.State.{mark_of}
+use Rattle.hierarchy.specs.Trace.{marks}
+use Rattle.hierarchy.specs.Warming.{warmed}
+use Rattle.hierarchy.proofs.TraceLemmas.{length-marks, marks_more}
+use Rattle.hierarchy.proofs.WarmingLemmas.{feeding}
 use Rattle.ruu_timing.specs.Times.{cycles}
 use Rattle.ruu_timing.specs.Trace.{IsTrace}
 use Rattle.rv_exec.specs.declared.event.Event.{Event}
 use Rattle.sample_design.specs.declared.units.Window.{Window}
 use Rattle.turbosmarts.specs.Processors.{HasMarked}
 use Rattle.turbosmarts.specs.Shown.{marks_of, window_cycles, IsAtEnd, IsTimeable}
-use Rattle.unit_answers.specs.Answers.{cycles_by}
+use Rattle.ruu_timing.specs.Machine.{cycles_by}
 
 -- the last of a list, and of one with one more
 kept_more :

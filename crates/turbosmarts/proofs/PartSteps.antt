@@ -1,14 +1,13 @@
 -- A part of a run, instruction by instruction.
 use Rattle.std.proofs.Common.{◌≡◌, ◌<◌, ◌+◌, ◌++◌, ◌∷◌, [], ℕ, List, length, Some, None, Ok, Err, refl, sym, ap, ◌∙◌, subst, arith}
-use Rattle.hierarchy.specs.Runs.{Run, run_of, joined}
-use Rattle.hierarchy.proofs.RunParts.{runs_whole}
-use Rattle.hierarchy.proofs.Traces.{one_more}
+use Rattle.rv_exec.specs.Runs.{Run, run_of, joined}
+use Rattle.rv_exec.proofs.RunsLemmas.{runs_whole, one_more}
 use Rattle.rv_exec.specs.declared.event.Event.{Event}
 use Rattle.rv_exec.specs.declared.event.Trap.{Trap}
 use Rattle.rv_machine.specs.declared.outcome.MachineFault.TheVariants as faults
 use Rattle.rv_machine.specs.declared.outcome.Outcome.TheVariants.{Exited}
 use Rattle.rv_machine.specs.Machine.{Machine, Advances}
-use Rattle.rv_machine.proofs.Runs.{at_start, goes_on, exits, traps}
+use Rattle.rv_machine.proofs.UnderWayLemmas.{at_start, goes_on, exits, traps}
 use Rattle.turbosmarts.specs.declared.measuring.PartEnd.TheVariants as ends
 use Rattle.turbosmarts.specs.Parts.{HasCome, HasShown, IsPart}
 use Rattle.turbosmarts.specs.Shown.{events_to}

@@ -10,7 +10,7 @@ use Rattle.ordered_fold.specs.Front.{front_of}
 use Rattle.rv_exec.specs.Machine.{State}
 use Rattle.rv_machine.specs.declared.outcome.Outcome.{Outcome}
 use Rattle.rv_machine.specs.Machine.{Machine, started}
-use Rattle.rv_machine.specs.Running.{outcome_of}
+use Rattle.rv_machine.specs.Outcome.{outcome_of}
 use Rattle.rv_machine.specs.Start.{start_of}
 use Rattle.sample_design.specs.declared.design.Design.{Design}
 use Rattle.sample_design.specs.Order.{order_of}

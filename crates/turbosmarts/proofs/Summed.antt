@@ -9,17 +9,17 @@ use Rattle.hierarchy.specs.declared.config.Config.{Config}
 use Rattle.hierarchy.specs.declared.marked.Marked.{Marked}
 use Rattle.hierarchy.specs.declared.state.State.{State}
 use Rattle.hierarchy.specs.declared.widths.Latencies.{Latencies}
-use Rattle.hierarchy.specs.Marking.{mark_of, after_event}
-use Rattle.hierarchy.specs.Runs.{marks}
+use Rattle.hierarchy.specs.State.{mark_of, after_event}
+use Rattle.hierarchy.specs.Trace.{marks}
 use Rattle.hierarchy.specs.Widths.{AreLatencies}
-use Rattle.hierarchy.proofs.RunParts.{length-marks}
+use Rattle.hierarchy.proofs.TraceLemmas.{length-marks}
 use Rattle.ruu_timing.proofs.Scalars.{scalar_within}
 use Rattle.ruu_timing.specs.Scalar.{scalar_latency, scalar_cycles}
 use Rattle.rv_exec.specs.declared.event.Event.{Event}
 use Rattle.sample_design.specs.declared.units.Window.{Window}
 use Rattle.turbosmarts.specs.Processors.{HasSummed, latencies_since}
 use Rattle.turbosmarts.specs.Shown.{marks_of, window_cycles, IsAtEnd, IsTimeable}
-use Rattle.unit_answers.specs.Answers.{cycles_by}
+use Rattle.ruu_timing.specs.Machine.{cycles_by}
 
 -- marking an instruction leaves its class
 classes_kept :

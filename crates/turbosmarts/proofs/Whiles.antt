@@ -9,7 +9,7 @@ use Rattle.rv_exec.specs.declared.event.Trap.{Trap}
 use Rattle.rv_exec.specs.Machine.{State}
 use Rattle.rv_machine.specs.declared.outcome.Outcome.TheVariants.{Exited, Trapped}
 use Rattle.rv_machine.specs.Machine.{Machine}
-use Rattle.rv_machine.specs.Running.{outcome_of}
+use Rattle.rv_machine.specs.Outcome.{outcome_of}
 use Rattle.sample_design.specs.declared.design.Design.{Design}
 use Rattle.turbosmarts.specs.Parts.{HasCome, HasShown, IsMeasuring, AreMeasured, units_ended}
 use Rattle.turbosmarts.specs.Shown.{events_to}

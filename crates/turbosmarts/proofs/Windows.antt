@@ -3,11 +3,12 @@ use Rattle.std.proofs.Common.{◌≡◌, ◌≤◌, ◌+◌, ◌-◌, ◌*◌, �
 use Rattle.confidence.specs.declared.answer.Answer.TheVariants.{Cycles}
 use Rattle.hierarchy.specs.declared.config.Config.{Config}
 use Rattle.hierarchy.specs.declared.state.State as hierarchy
-use Rattle.hierarchy.specs.References.{warmed}
-use Rattle.hierarchy.specs.Runs.{run_of, trace}
-use Rattle.hierarchy.proofs.RunParts.{runs_whole}
-use Rattle.hierarchy.proofs.Traces.{traces_split}
-use Rattle.hierarchy.proofs.Warms.{feeding}
+use Rattle.hierarchy.specs.Trace.{trace}
+use Rattle.hierarchy.specs.Warming.{warmed}
+use Rattle.rv_exec.specs.Runs.{run_of}
+use Rattle.hierarchy.proofs.TraceLemmas.{traces_split}
+use Rattle.hierarchy.proofs.WarmingLemmas.{feeding}
+use Rattle.rv_exec.proofs.RunsLemmas.{runs_whole}
 use Rattle.rv_exec.specs.declared.event.Event.{Event}
 use Rattle.rv_exec.specs.Machine.{State}
 use Rattle.sample_design.specs.declared.design.Design.{Design}
@@ -16,7 +17,8 @@ use Rattle.sample_design.specs.Design.{IsUsable}
 use Rattle.sample_design.specs.Units.{window_of}
 use Rattle.turbosmarts.specs.Parts.{HasShown}
 use Rattle.turbosmarts.specs.Shown.{events_to, marks_of, window_cycles, IsAtEnd, IsTimeable, CanTell}
-use Rattle.unit_answers.specs.Answers.{cycles_of, answer_by, whole_answer}
+use Rattle.ruu_timing.specs.Machine.{cycles_of}
+use Rattle.unit_answers.specs.Answers.{answer_by, whole_answer}
 
 -- the marks of a run that can be done are its trace
 traced :

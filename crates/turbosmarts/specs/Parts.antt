@@ -3,11 +3,11 @@ use Rattle.std.specs.Prelude.{◌≡◌, ◌==◌, if◌then◌else◌, ◌<◌,
 use Rattle.confidence.specs.declared.answer.Answer.TheVariants.{Cycles}
 use Rattle.confidence.specs.Sums.{IsCycles}
 use Rattle.hierarchy.specs.declared.config.Config.{Config}
-use Rattle.hierarchy.specs.Runs.{run_of}
+use Rattle.rv_exec.specs.Runs.{run_of}
 use Rattle.rv_exec.specs.Machine.{State}
 use Rattle.rv_machine.specs.declared.outcome.Outcome.TheVariants.{Exited, Trapped}
 use Rattle.rv_machine.specs.Machine.{Machine, IsUnderWay}
-use Rattle.rv_machine.specs.Running.{outcome_of}
+use Rattle.rv_machine.specs.Outcome.{outcome_of}
 use Rattle.sample_design.specs.declared.design.Design.{Design}
 use Rattle.sample_design.specs.Units.{sampled_unit, EndsWithin}
 use Rattle.turbosmarts.specs.declared.measuring.Part.{Part}

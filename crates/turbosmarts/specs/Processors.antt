@@ -6,7 +6,7 @@ use Rattle.hierarchy.specs.declared.marked.Marked.{Marked}
 use Rattle.hierarchy.specs.declared.state.State.{State}
 use Rattle.hierarchy.specs.declared.widths.Widths.{Widths}
 use Rattle.hierarchy.specs.Marked.{IsMarked}
-use Rattle.hierarchy.specs.References.{warmed}
+use Rattle.hierarchy.specs.Warming.{warmed}
 use Rattle.ruu_timing.specs.Scalar.{scalar_latency}
 use Rattle.rv_exec.specs.declared.event.Event.{Event}
 use Rattle.turbosmarts.specs.Shown.{marks_of}

@@ -2,12 +2,13 @@
 use Rattle.std.specs.Prelude.{◌≡◌, ◌≤◌, ◌+◌, ℕ, List, [], drop, length}
 use Rattle.hierarchy.specs.declared.config.Config.{Config}
 use Rattle.hierarchy.specs.declared.marked.Marked.{Marked}
-use Rattle.hierarchy.specs.References.{warmed}
-use Rattle.hierarchy.specs.Runs.{marks, run_of}
+use Rattle.hierarchy.specs.Trace.{marks}
+use Rattle.hierarchy.specs.Warming.{warmed}
+use Rattle.rv_exec.specs.Runs.{run_of}
 use Rattle.rv_exec.specs.declared.event.Event.{Event}
 use Rattle.rv_exec.specs.Machine.{State}
 use Rattle.sample_design.specs.declared.units.Window.{Window}
-use Rattle.unit_answers.specs.Answers.{cycles_of}
+use Rattle.ruu_timing.specs.Machine.{cycles_of}
 
 -- the first so many instructions of a run
 abbrev pub events_to : State → ℕ → List Event

@@ -2,7 +2,7 @@ ghost use Rattle.std.specs.Prelude.{◌≡◌, ◌≤◌, ◌<◌, ◌+◌, ℕ,
 ghost use Rattle.hierarchy.specs.Config.{IsConfig};
 ghost use Rattle.rv_machine.specs.declared.outcome.Outcome.TheVariants.{Exited};
 ghost use Rattle.rv_machine.specs.Machine.{Machine};
-ghost use Rattle.rv_machine.specs.Running.{outcome_of};
+ghost use Rattle.rv_machine.specs.Outcome.{outcome_of};
 ghost use Rattle.sample_design.specs.Design.{IsUsable};
 ghost use Rattle.turbosmarts.specs.Parts.{AreMeasured, HasCome, IsPart};
 ghost use Rattle.turbosmarts.specs.Shown.{events_to};

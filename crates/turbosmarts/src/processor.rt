@@ -3,7 +3,7 @@ ghost use Rattle.confidence.specs.Sums.{IsCycles};
 ghost use Rattle.hierarchy.specs.declared.config.Config.{Config as ConfigValue};
 ghost use Rattle.hierarchy.specs.Config.{IsConfig};
 ghost use Rattle.rv_exec.specs.declared.event.Event.{Event as EventValue};
-ghost use Rattle.rv_exec.specs.Events.{IsWellFormed};
+ghost use Rattle.rv_exec.specs.Event.{IsWellFormed};
 ghost use Rattle.turbosmarts.specs.Shown.{CanTell, IsAtEnd, window_cycles};
 
 use rv_exec::Event;

@@ -1,5 +1,5 @@
 -- The answers of the units of a run: the cycles that each takes on a processor, or why it has none.
-use Rattle.std.specs.Prelude.{ℕ, List, Bool, true, false, map, Result, Ok, Err}
+use Rattle.std.specs.Prelude.{ℕ, List, map, Result, Ok, Err}
 use Rattle.confidence.specs.declared.answer.Answer.{Answer}
 use Rattle.confidence.specs.declared.answer.Answer.TheVariants.{Cycles, Fault}
 use Rattle.confidence.specs.declared.answer.PointFault.{PointFault}
@@ -7,25 +7,16 @@ use Rattle.confidence.specs.declared.answer.PointKind.{PointKind}
 use Rattle.confidence.specs.declared.answer.PointKind.TheVariants as kinds
 use Rattle.hierarchy.specs.declared.config.Config.{Config}
 use Rattle.hierarchy.specs.declared.marked.Marked.{Marked}
-use Rattle.hierarchy.specs.References.{warmed}
-use Rattle.hierarchy.specs.Runs.{Halt, Trapped, AfterExit, run_of, trace}
-use Rattle.ruu_timing.specs.Scalar.{scalar_cycles}
-use Rattle.ruu_timing.specs.Times.{cycles}
+use Rattle.hierarchy.specs.Trace.{trace}
+use Rattle.hierarchy.specs.Warming.{warmed}
+use Rattle.rv_exec.specs.Runs.{Halt, Trapped, AfterExit, run_of}
+use Rattle.ruu_timing.specs.Machine.{cycles_of}
 use Rattle.rv_exec.specs.declared.event.TrapKind.{TrapKind}
 use Rattle.rv_exec.specs.declared.event.TrapKind.TheVariants as traps
 use Rattle.rv_exec.specs.Machine.{State}
 use Rattle.sample_design.specs.declared.design.Design.{Design}
 use Rattle.sample_design.specs.Order.{order_of}
 use Rattle.sample_design.specs.Units.{sampled_unit, window_of}
-
--- the cycles of a trace from instruction `skip` on: with a register update unit, or of one instruction after
--- the other
-abbrev pub cycles_by : Bool → Config → List Marked → ℕ → ℕ
-cycles_by true config marks skip = cycles config.widths marks skip
-cycles_by false config marks skip = scalar_cycles config.latencies marks skip
-
-abbrev pub cycles_of : Config → List Marked → ℕ → ℕ
-cycles_of config marks skip = cycles_by config.ruu config marks skip
 
 abbrev pub kind_of : TrapKind → PointKind
 kind_of traps.Illegal = kinds.Illegal

@@ -20,7 +20,7 @@ impl Memory for Pair {
 
     ghost sound = { λ s. Unit {0} };
 
-    #[tactic(auto, using(crate::proofs::Memories::word_at_two))]
+    #[tactic(auto, using(crate::proofs::MemoriesLemmas::word_at_two))]
     fn load_word(&self, addr: u32) -> Option<u32> {
         if addr == self.code_at {
             return Some(self.code);
@@ -31,7 +31,7 @@ impl Memory for Pair {
         None
     }
 
-    #[tactic(auto, using(crate::proofs::Memories::word_at_two, crate::proofs::Memories::store_first, crate::proofs::Memories::store_second))]
+    #[tactic(auto, using(crate::proofs::MemoriesLemmas::word_at_two, crate::proofs::MemoriesLemmas::store_first, crate::proofs::MemoriesLemmas::store_second))]
     fn store_word(&mut self, addr: u32, value: u32) -> bool {
         if addr == self.code_at {
             self.code = value;
@@ -63,7 +63,7 @@ impl Memory for Flat {
 
     ghost sound = { λ s. Unit {0} };
 
-    #[tactic(auto, using(crate::proofs::Memories::word_at_flat))]
+    #[tactic(auto, using(crate::proofs::MemoriesLemmas::word_at_flat))]
     fn load_word(&self, addr: u32) -> Option<u32> {
         let place = (addr / 4) as usize;
         if addr % 4 == 0 && place < self.words.len() {
@@ -73,7 +73,7 @@ impl Memory for Flat {
         }
     }
 
-    #[tactic(auto, using(crate::proofs::Memories::word_at_flat, crate::proofs::Memories::store_flat))]
+    #[tactic(auto, using(crate::proofs::MemoriesLemmas::word_at_flat, crate::proofs::MemoriesLemmas::store_flat))]
     fn store_word(&mut self, addr: u32, value: u32) -> bool {
         let place = (addr / 4) as usize;
         if addr % 4 == 0 && place < self.words.len() {

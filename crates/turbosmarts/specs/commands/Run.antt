@@ -1,7 +1,8 @@
 -- `run`: the output of a program.
 use Rattle.std.specs.Prelude.{ℕ, List, Some, Result, Ok}
 use Rattle.elf_image.specs.Image.{image_of}
-use Rattle.rv_machine.specs.Running.{outcome_of, output_after}
+use Rattle.rv_machine.specs.Outcome.{outcome_of}
+use Rattle.rv_machine.specs.Output.{output_after}
 use Rattle.rv_machine.specs.Start.{start_of}
 use Rattle.smarts_base.specs.Outcome.{◌>>=◌}
 use Rattle.turbosmarts.specs.declared.fault.InputFault.{InputFault}

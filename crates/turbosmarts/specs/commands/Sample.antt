@@ -5,7 +5,7 @@ use Rattle.confidence.specs.declared.verdict.Test.{Test}
 use Rattle.elf_image.specs.Image.{image_of}
 use Rattle.hierarchy.specs.declared.config.Config.{Config}
 use Rattle.ordered_fold.specs.Ending.{ending_of, sums_at_end}
-use Rattle.rv_machine.specs.Running.{outcome_of}
+use Rattle.rv_machine.specs.Outcome.{outcome_of}
 use Rattle.rv_machine.specs.Start.{start_of}
 use Rattle.sample_design.specs.declared.design.Design.{Design}
 use Rattle.sample_design.specs.declared.units.UnitsFault.{UnitsFault}

@@ -6,7 +6,7 @@ ghost use Rattle.hierarchy.specs.declared.config.Config.{Config as ConfigValue};
 ghost use Rattle.hierarchy.specs.Config.{IsConfig};
 ghost use Rattle.rv_exec.specs.Machine.{State};
 ghost use Rattle.rv_machine.specs.declared.outcome.Outcome.TheVariants.{Exited};
-ghost use Rattle.rv_machine.specs.Running.{outcome_of};
+ghost use Rattle.rv_machine.specs.Outcome.{outcome_of};
 ghost use Rattle.sample_design.specs.Design.{IsUsable};
 ghost use Rattle.sample_design.specs.Units.{EndsWithin, sampled_unit, units_of};
 ghost use Rattle.smarts_base.specs.Outcome.{Answers};

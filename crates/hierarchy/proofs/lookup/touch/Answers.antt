@@ -1,6 +1,6 @@
 use Rattle.lru_plain.specs.Shape.{block_of}
 use Rattle.lru_plain.specs.Cache.{set_for}
-use Rattle.hierarchy.proofs.Found.{found}
+use Rattle.hierarchy.proofs.LookupLemmas.{found}
 use Rattle.hierarchy.proofs.lookup.touch.Goals as goal
 
 pub returns-clause-hit : goal.returns-clause-hit

@@ -1,5 +1,5 @@
 -- An event is well formed, since the pc of a core is a multiple of 4.
-use Rattle.rv_exec.proofs.Steps.{well_formed}
+use Rattle.rv_exec.proofs.StepsLemmas.{well_formed}
 use Rattle.rv_exec.proofs.stepping.step_with.Goals as goal
 
 pub returns-in-Ok-clause-well_formed : goal.returns-in-Ok-clause-well_formed

@@ -1,6 +1,6 @@
 use Rattle.std.proofs.Common.{◌++◌, ◌-◌, ℕ, List, arith, ap, ◌∙◌, vec_len}
 use Rattle.rv_machine.specs.Start.{zeros}
-use Rattle.rv_machine.proofs.Fronts.{longer_front}
+use Rattle.rv_machine.proofs.BlockLemmas.{longer_front}
 use Rattle.rv_machine.proofs.block.grow.Goals as goal
 
 pub returns-clause-same : goal.returns-clause-same

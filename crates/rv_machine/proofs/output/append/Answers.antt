@@ -1,7 +1,7 @@
 use Rattle.std.proofs.Common.{◌≡◌, ◌++◌, arith, append_assoc}
 use Rattle.std.proofs.lemmas.List.{append-nil}
 use Rattle.rv_machine.specs.Output.{bytes_at}
-use Rattle.rv_machine.proofs.Pushed.{bytes_none, bytes_more}
+use Rattle.rv_machine.proofs.OutputLemmas.{bytes_none, bytes_more}
 use Rattle.rv_machine.proofs.output.append.Goals as goal
 
 pub loop-offset-init : goal.loop-offset-init

@@ -1,8 +1,8 @@
 use Rattle.std.proofs.Common.{◌∙◌, ap}
 use Rattle.hierarchy.specs.declared.state.State.{State}
-use Rattle.hierarchy.specs.Marking.{after_event}
-use Rattle.hierarchy.proofs.Traces.{annotated_more}
-use Rattle.hierarchy.proofs.Warms.{warmed_more}
+use Rattle.hierarchy.specs.State.{after_event}
+use Rattle.hierarchy.proofs.TraceLemmas.{annotated_more}
+use Rattle.hierarchy.proofs.WarmingLemmas.{warmed_more}
 use Rattle.hierarchy.proofs.state.State.annotate.Goals as goal
 
 pub returns-clause-warmed : goal.returns-clause-warmed

@@ -1,4 +1,4 @@
-use Rattle.hierarchy.proofs.Warms.{empty_cache, same_caches}
+use Rattle.hierarchy.proofs.WarmingLemmas.{empty_cache, same_caches}
 use Rattle.hierarchy.proofs.state.State.new.Goals as goal
 
 pub returns : goal.returns

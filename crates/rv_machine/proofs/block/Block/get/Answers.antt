@@ -1,6 +1,6 @@
 use Rattle.std.proofs.Common.{◌-◌, ℕ, List, arith, ap, sym, ◌∙◌, vec_len}
 use Rattle.std.specs.Prelude.{slice_get}
-use Rattle.rv_machine.proofs.Fronts.{zero_word, no_word}
+use Rattle.rv_machine.proofs.BlockLemmas.{zero_word, no_word}
 use Rattle.rv_machine.proofs.block.Block.get.Goals as goal
 
 pub returns-then-at-self : goal.returns-then-at-self

@@ -1,7 +1,7 @@
 use Rattle.std.proofs.Common.{◌≡◌, ◌-◌, ℕ, List, length, arith, ap, sym, ◌∙◌, vec_len}
 use Rattle.std.specs.Prelude.{slice_set}
 use Rattle.std.proofs.lemmas.Bool.Decides.{nat_tests}
-use Rattle.rv_machine.proofs.Fronts.{length_words, front_set}
+use Rattle.rv_machine.proofs.BlockLemmas.{length_words, front_set}
 use Rattle.rv_machine.proofs.block.Block.set.Goals as goal
 
 pub returns-then-at-self-clause-held : goal.returns-then-at-self-clause-held

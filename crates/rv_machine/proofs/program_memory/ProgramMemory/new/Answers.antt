@@ -1,7 +1,7 @@
 use Rattle.std.proofs.Common.{◌≡◌, ◌+◌, ◌-◌, ◌/◌, ◌^◌, ℕ, List, length, length-append, arith, ap, ◌∙◌, vec_len}
 use Rattle.rv_machine.specs.Start.{zeros}
-use Rattle.rv_machine.proofs.Filled.{filled}
-use Rattle.rv_machine.proofs.Fronts.{length_words, length_zeros}
+use Rattle.rv_machine.proofs.StartBlockLemmas.{filled}
+use Rattle.rv_machine.proofs.BlockLemmas.{length_words, length_zeros}
 use Rattle.rv_machine.proofs.program_memory.ProgramMemory.new.Goals as goal
 
 pub returns-clause-words : goal.returns-clause-words

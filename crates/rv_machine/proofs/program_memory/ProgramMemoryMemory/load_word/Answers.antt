@@ -1,5 +1,5 @@
 use Rattle.std.proofs.Common.{arith, ◌∙◌}
-use Rattle.rv_machine.proofs.Finds.{first_found, second_found}
+use Rattle.rv_machine.proofs.ProgramMemoryLemmas.{first_found, second_found}
 use Rattle.rv_machine.proofs.program_memory.ProgramMemoryMemory.load_word.Goals as goal
 
 pub returns-then-addr-lt-STACK_LOW : goal.returns-then-addr-lt-STACK_LOW

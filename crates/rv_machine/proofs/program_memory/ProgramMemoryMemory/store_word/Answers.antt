@@ -1,6 +1,6 @@
 use Rattle.std.proofs.Common.{List, ℕ, ap, arith, ◌∙◌}
-use Rattle.rv_machine.specs.Blocks.{words_of}
-use Rattle.rv_machine.proofs.Finds.{first_written, second_written}
+use Rattle.rv_machine.specs.ProgramMemory.{words_of}
+use Rattle.rv_machine.proofs.ProgramMemoryLemmas.{first_written, second_written}
 use Rattle.rv_machine.proofs.program_memory.ProgramMemoryMemory.store_word.Goals as goal
 
 pub returns-then-addr-lt-STACK_LOW-clause-held : goal.returns-then-addr-lt-STACK_LOW-clause-held

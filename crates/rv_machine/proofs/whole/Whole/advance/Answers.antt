@@ -1,5 +1,5 @@
-use Rattle.rv_machine.proofs.Undone.{end_of, no_memory}
-use Rattle.rv_machine.proofs.Writes.{wrote}
+use Rattle.rv_machine.proofs.UndoneLemmas.{end_of, no_memory}
+use Rattle.rv_machine.proofs.WriteLemmas.{wrote}
 use Rattle.rv_machine.proofs.whole.Whole.advance.Goals as goal
 
 pub append-requires-clause-end : goal.append-requires-clause-end

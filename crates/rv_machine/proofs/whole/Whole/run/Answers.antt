@@ -1,7 +1,8 @@
 use Rattle.std.proofs.Common.{arith, ap, sym, ◌∙◌}
 use Rattle.rv_machine.specs.Machine.{Machine}
-use Rattle.rv_machine.proofs.Runs.{at_start, advanced, goes_on, exits, traps, is_spent}
-use Rattle.rv_machine.proofs.Stays.{stays_exited, stays_trapped}
+use Rattle.rv_machine.proofs.UnderWayLemmas.{at_start, advanced, goes_on, exits, traps, is_spent}
+use Rattle.rv_machine.proofs.HaltedLemmas.{stays_exited, stays_trapped}
+use Rattle.rv_machine.proofs.OutcomeLemmas.{same_outcome}
 use Rattle.rv_machine.proofs.whole.Whole.run.Goals as goal
 
 pub loop-at-init : goal.loop-at-init
@@ -12,6 +13,9 @@ returns-in-Err-Trap-clause-outcome c =
     let step = rw c.in-Err-Trap.field-0-is at c.in-Err-Trap.ensures.advances in
     traps c.args.self.now c.loop-at.self c.advance.new.self c.args.budget c.loop-at.at
     c.in-Err-Trap.trap c.loop-at.invariant c.loop-at-test.true step
+
+pub returns-in-Err-Trap-clause-ends : goal.returns-in-Err-Trap-clause-ends
+returns-in-Err-Trap-clause-ends c = same_outcome _ _ _ (returns-in-Err-Trap-clause-outcome c)
 
 pub returns-in-Err-Trap-clause-machine : goal.returns-in-Err-Trap-clause-machine
 returns-in-Err-Trap-clause-machine c =
@@ -26,6 +30,9 @@ returns-in-Some-clause-outcome c =
     exits c.args.self.now c.loop-at.self c.advance.new.self c.args.budget c.loop-at.at
     c.in-Some.code c.in-Ok.field-0 c.loop-at.invariant c.loop-at-test.true
     c.in-Ok.ensures.advances exit
+
+pub returns-in-Some-clause-ends : goal.returns-in-Some-clause-ends
+returns-in-Some-clause-ends c = same_outcome _ _ _ (returns-in-Some-clause-outcome c)
 
 pub returns-in-Some-clause-machine : goal.returns-in-Some-clause-machine
 returns-in-Some-clause-machine c =
@@ -45,3 +52,6 @@ pub returns-clause-outcome : goal.returns-clause-outcome
 returns-clause-outcome c =
     is_spent c.args.self.now c.loop-at.self c.args.budget c.loop-at.at c.loop-at.invariant
     c.loop-at-test.false
+
+pub returns-clause-ends : goal.returns-clause-ends
+returns-clause-ends c = same_outcome _ _ _ (returns-clause-outcome c)

@@ -1,6 +1,6 @@
 use Rattle.std.proofs.Common.{ap}
 use Rattle.rv_machine.specs.Machine.{Machine}
-use Rattle.rv_machine.proofs.Addresses.{word_mapped}
+use Rattle.rv_machine.proofs.WordAddressLemmas.{word_mapped}
 use Rattle.rv_machine.proofs.whole.Whole.word.Goals as goal
 
 pub returns-clause-mapped : goal.returns-clause-mapped

@@ -1,5 +1,5 @@
 -- How a run ends, from the least instruction that exits or traps, both ways.
-use Rattle.std.proofs.Common.{◌≡◌, ◌≢◌, ◌<◌, ◌+◌, ℕ, Bool, true, false, Option, Some, None, refl, sym, ap, ◌∙◌}
+use Rattle.std.proofs.Common.{◌↔◌, ◌≡◌, ◌≢◌, ◌<◌, ◌+◌, ℕ, Bool, true, false, Option, Some, None, refl, sym, ap, ◌∙◌}
 use Rattle.std.specs.Prelude.{is_some}
 use Rattle.smarts_base.specs.Least.{least_below, NonePasses}
 use Rattle.smarts_base.proofs.Leasts.{least_below_some, least_below_none, least_is_least, none_passes}
@@ -7,8 +7,9 @@ use Rattle.rv_exec.specs.declared.event.Trap.{Trap}
 use Rattle.rv_exec.specs.Machine as step
 use Rattle.rv_exec.specs.Machine.{State, Went, Stopped}
 use Rattle.rv_machine.specs.declared.outcome.Outcome.TheVariants.{Exited, Trapped, Spent}
-use Rattle.rv_machine.specs.Running.{state_after, step_at, is_last, exited_by, ended_by, ended_at, outcome_of}
-use Rattle.rv_machine.specs.Laws.{Does, Reaches, ExitsWhere, TrapsWhere, SpendsWhere}
+use Rattle.rv_exec.specs.Runs.{state_after, step_at}
+use Rattle.rv_machine.specs.declared.outcome.Outcome.{Outcome}
+use Rattle.rv_machine.specs.Outcome.{is_last, exited_by, ended_by, ended_at, outcome_of, Does, Reaches, Exits, Traps, IsOutcome}
 
 abbrev ends_at : State → ℕ → Bool
 ends_at start n = is_last (step_at start n)
@@ -66,7 +67,8 @@ spends start budget (Some n) found is =
     absurd (never_spent n _ (step_at start n)
     (least_is_least budget n (ends_at start) found).passes is)
 
-pub spends_where : SpendsWhere
+spends_where :
+    (start : State) (budget : ℕ) → (outcome_of start budget ≡ Spent) ↔ Reaches start budget
 spends_where start budget = (
   λ is. spends start budget (least_below budget (ends_at start)) refl
       (sym (found_at start budget _ refl) ∙ is),
@@ -91,14 +93,16 @@ exited_with start n pc m code (Stopped kind) is end = absurd (cc)
 exits :
     (start : State) (budget length code : ℕ) (found : Option ℕ)
     → least_below budget (ends_at start) ≡ found → ended_at start found ≡ Exited code length
-    → (at : ℕ) × (length ≡ at + 1) × (at < budget) × Reaches start at × Does start at (Some code)
+    → Exits start budget length code
 exits start budget length code None none is = absurd (cc)
 exits start budget length code (Some n) found is =
     let least = least_is_least budget n (ends_at start) found in
     let end = exited_with start n _ length code (step_at start n) refl is in
     (n, end.0, least.below, reaches_of start n least.first, end.1)
 
-pub exits_where : ExitsWhere
+pub exits_where :
+    (start : State) (budget length code : ℕ)
+    → (outcome_of start budget ≡ Exited code length) ↔ Exits start budget length code
 exits_where start budget length code = (
   λ is. exits start budget length code (least_below budget (ends_at start)) refl
       (sym (found_at start budget _ refl) ∙ is),
@@ -126,15 +130,16 @@ trapped_with start n pc m trap (Stopped kind) is end =
 traps :
     (start : State) (budget at : ℕ) (trap : Trap) (found : Option ℕ)
     → least_below budget (ends_at start) ≡ found → ended_at start found ≡ Trapped at trap
-    → (at < budget) × Reaches start at × (step_at start at ≡ Stopped trap.kind)
-    × (trap.pc ≡ (state_after start at).pc)
+    → Traps start budget at trap
 traps start budget at trap None none is = absurd (cc)
 traps start budget at trap (Some n) found is =
     let least = least_is_least budget n (ends_at start) found in
     let end = trapped_with start n _ at trap (step_at start n) refl is in
     rw end.0 (least.below, reaches_of start n least.first, end.1, end.2)
 
-pub traps_where : TrapsWhere
+traps_where :
+    (start : State) (budget at : ℕ) (trap : Trap)
+    → (outcome_of start budget ≡ Trapped at trap) ↔ Traps start budget at trap
 traps_where start budget at trap = (
   λ is. traps start budget at trap (least_below budget (ends_at start)) refl
       (sym (found_at start budget _ refl) ∙ is),
@@ -142,3 +147,16 @@ traps_where start budget at trap = (
       first_at start budget at below reaches (rw stops refl)
       ∙ (rw (stops, ← place) refl),
 )
+
+-- the outcome comes exactly where the run ends so
+pub is_outcome : (start : State) (budget : ℕ) → IsOutcome start budget (outcome_of start budget)
+is_outcome start budget = record {
+  exited = λ code length. exits_where start budget length code;
+  trapped = traps_where start budget;
+  spent = spends_where start budget;
+}
+
+pub same_outcome :
+    (start : State) (budget : ℕ) (outcome : Outcome)
+    → outcome ≡ outcome_of start budget → IsOutcome start budget outcome
+same_outcome start budget outcome is = rw is (is_outcome start budget)

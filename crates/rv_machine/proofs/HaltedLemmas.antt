@@ -6,12 +6,14 @@ use Rattle.rv_exec.specs.Machine as step
 use Rattle.rv_exec.specs.Machine.{State, Stopped}
 use Rattle.rv_exec.specs.Next.{next}
 use Rattle.rv_machine.specs.Machine.{Machine, machine_after, IsUnderWay}
-use Rattle.rv_machine.specs.Running.{moved, written, state_after, output_after}
+use Rattle.rv_exec.specs.Runs.{state_after}
+use Rattle.rv_exec.proofs.RunsLemmas.{moved, state_behind}
+use Rattle.rv_machine.specs.Output.{step_output, output_after}
 
 -- the machine has exited, or its next instruction traps
 record IsHalted (s : State) : Type 0 where
   pub state : moved s.exit (next s) s ≡ s
-  pub output : written s.exit (next s) ≡ []
+  pub output : step_output s.exit (next s) ≡ []
 
 stopped :
     (exit : Option ℕ) (outcome : step.Outcome) (kind : TrapKind) (s : State)
@@ -20,7 +22,7 @@ stopped exit outcome kind s running is = rw (running, is) refl
 
 nothing_written :
     (exit : Option ℕ) (outcome : step.Outcome) (kind : TrapKind)
-    → exit ≡ None → outcome ≡ Stopped kind → written exit outcome ≡ []
+    → exit ≡ None → outcome ≡ Stopped kind → step_output exit outcome ≡ []
 nothing_written exit outcome kind running is = rw (running, is) refl
 
 trapped : (s : State) (kind : TrapKind) → s.exit ≡ None → next s ≡ Stopped kind → IsHalted s
@@ -32,7 +34,7 @@ trapped s kind running is = record {
 gone : (exit : Option ℕ) (outcome : step.Outcome) (code : ℕ) (s : State) → exit ≡ Some code → moved exit outcome s ≡ s
 gone exit outcome code s is = rw is refl
 
-silent : (exit : Option ℕ) (outcome : step.Outcome) (code : ℕ) → exit ≡ Some code → written exit outcome ≡ []
+silent : (exit : Option ℕ) (outcome : step.Outcome) (code : ℕ) → exit ≡ Some code → step_output exit outcome ≡ []
 silent exit outcome code is = rw is refl
 
 exited : (s : State) (code : ℕ) → s.exit ≡ Some code → IsHalted s
@@ -45,15 +47,19 @@ stays :
     (start : State) (n more : ℕ) → IsHalted (state_after start n)
     → (state_after start (n + more) ≡ state_after start n)
     × (output_after start (n + more) ≡ output_after start n)
-unfolding state_after output_after
+unfolding output_after
 stays start n zero halted =
     let same : n + zero ≡ n = omega arith in
     (ap (state_after start) same, ap (output_after start) same)
 stays start n (suc more) halted =
     let one : n + suc more ≡ suc (n + more) = omega arith in
+    let next_one : n + suc more ≡ n + more + 1 = omega arith in
     let before = stays start n more halted in (
-      rw one (ap (λ (s : State). moved s.exit (next s) s) before.0 ∙ halted.state),
-      rw one (ap (λ (s : State). output_after start (n + more) ++ written s.exit (next s)) before.0
+      ap (state_after start) next_one
+          ∙ state_behind start (n + more)
+          ∙ ap (λ (s : State). moved s.exit (next s) s) before.0
+          ∙ halted.state,
+      rw one (ap (λ (s : State). output_after start (n + more) ++ step_output s.exit (next s)) before.0
           ∙ ap (λ (b : List ℕ). output_after start (n + more) ++ b) halted.output
           ∙ append-nil (output_after start (n + more)) ∙ before.1),
     )

@@ -5,15 +5,16 @@ use Rattle.std.specs.Option.{option_map}
 use Rattle.std.proofs.lemmas.List.Elements.{All-nil, All-cons}
 use Rattle.rv_isa.specs.declared.roles.Class.{Class}
 use Rattle.rv_isa.specs.declared.roles.Class.TheVariants.{Alu, Mul, Div, Load, Store, Control, Ecall}
-use Rattle.rv_exec.specs.Events.{IsWellFormed, is_memory}
+use Rattle.rv_exec.specs.Event.{IsWellFormed, is_memory}
 use Rattle.rv_exec.specs.declared.event.DataRef.{DataRef}
 use Rattle.rv_exec.specs.declared.event.Event.{Event}
 use Rattle.hierarchy.specs.declared.lookup.Hits.{Hits}
 use Rattle.hierarchy.specs.declared.state.State.{State}
 use Rattle.hierarchy.specs.declared.widths.Latencies.{Latencies}
 use Rattle.hierarchy.specs.Marked.{IsMarked, accesses_memory}
-use Rattle.hierarchy.specs.Marking.{delay, latency_of, mark_of, after_event}
-use Rattle.hierarchy.specs.Runs.{marks}
+use Rattle.hierarchy.specs.Lookup.{delay, latency_of}
+use Rattle.hierarchy.specs.State.{mark_of, after_event}
+use Rattle.hierarchy.specs.Trace.{marks}
 use Rattle.hierarchy.specs.Widths.{AreLatencies}
 
 waits : (tlb l2 mem : ℕ) (a b c : Bool) → tlb ≤ 200 → l2 ≤ 100 → mem ≤ 1000

@@ -1,9 +1,10 @@
 -- What holds of every step that is done: case by case over the actions, and of all instructions.
-use Rattle.std.proofs.Common.{◌≡◌, ◌%◌, ◌+◌, ◌-◌, ◌^◌, ℕ, Bool, true, false, refl, arith, List, Option, Some, None, Err, subst, sym, ◌∙◌}
+use Rattle.std.proofs.Common.{◌≡◌, ◌%◌, ◌+◌, ◌-◌, ◌^◌, ℕ, Bool, true, false, refl, arith, List, Option, Some, None, Err, inl, inr, subst, sym, ◌∙◌}
 use Rattle.std.specs.Prelude.{is_some, ◌==◌, ◌||◌, ◌&&◌, nat_le, if◌then◌else◌, IfSome}
 use Rattle.std.specs.Option.{option_map}
-use Rattle.rv_exec.specs.Steps.{place_of, HoldsData, applied, over, EveryStep}
+use Rattle.rv_exec.specs.Steps.{place_of, HoldsData, applied, over, IsHeapEnd, EveryStep}
 use Rattle.std.proofs.lemmas.Bool.{eqb-true}
+use Rattle.std.proofs.lemmas.Bool.Decides.{nat_tests}
 use Rattle.rv_isa.specs.declared.inst.Inst.{Inst}
 use Rattle.rv_isa.specs.declared.inst.Inst.TheVariants.{Lui, Auipc, Jal, Jalr, Beq, Bne, Blt, Bge, Bltu, Bgeu, Lb, Lh, Lw, Lbu, Lhu, Sb, Sh, Sw, Addi, Slti, Sltiu, Xori, Ori, Andi, Slli, Srli, Srai, Add, Sub, Sll, Slt, Sltu, Xor, Srl, Sra, Or, And, Mul, Mulh, Mulhsu, Mulhu, Div, Divu, Rem, Remu, Fence, FenceI, Ecall, Ebreak}
 use Rattle.rv_isa.specs.declared.roles.Class.{Class}
@@ -23,9 +24,12 @@ use Rattle.rv_exec.specs.declared.event.TrapKind.TheVariants as trap
 use Rattle.rv_exec.specs.Word.{following}
 use Rattle.rv_exec.specs.Memory.{Words, word_at, stored, passes}
 use Rattle.rv_exec.specs.Machine.{State, Outcome, Went, Stopped, read, write}
-use Rattle.rv_exec.specs.Actions.{action_of}
-use Rattle.rv_exec.specs.Next.{completes, goes_on, computes, branches, jumps, calls, writes, exits, sets_break, answers, loads, stores, held, perform, decoded, fetched, next}
-use Rattle.rv_exec.specs.Events.{IsWellFormed, is_memory, is_control, is_transfer}
+use Rattle.rv_exec.specs.Action.{action_of}
+use Rattle.rv_exec.specs.Calls.{calls, writes, exits, sets_break, answers}
+use Rattle.rv_exec.specs.Data.{loads, stores, held}
+use Rattle.rv_exec.specs.Finish.{completes, goes_on, computes, branches, jumps}
+use Rattle.rv_exec.specs.Next.{perform, decoded, executed, next}
+use Rattle.rv_exec.specs.Event.{IsWellFormed, is_memory, is_control, is_transfer}
 
 -- the class is one of instructions that do such an action
 abbrev pub Fits : Class → Action → Type 0
@@ -100,6 +104,7 @@ pub record Landed (s : State) (e : Event) (after : State) (elsewhere : Words →
   pub held : HoldsData s.words e.access
   pub moves : after.pc ≡ e.next
   pub heap_low : after.heap_low ≡ s.heap_low
+  pub heap_end : IsHeapEnd s after.brk
   pub buffers : after.buffers ≡ s.buffers
   pub well_formed : s.pc % 4 ≡ 0 → IsWellFormed e
   pub again :
@@ -139,6 +144,7 @@ record Ready (s t : State) (write : Option (ℕ × ℕ)) (access : Option DataRe
   pub place : IfSome write (λ w. option_map place_of access ≡ Some w.0)
   pub held : HoldsData s.words access
   pub heap_low : t.heap_low ≡ s.heap_low
+  pub heap_end : IsHeapEnd s t.brk
   pub buffers : t.buffers ≡ s.buffers
 
 lands_completes :
@@ -163,6 +169,7 @@ lands_completes s t put w i access control behind wrote elsewhere ready aligned 
           held = ready.held;
           moves = refl;
           heap_low = ready.heap_low;
+          heap_end = ready.heap_end;
           buffers = ready.buffers;
           well_formed =
               λ at. record {
@@ -209,6 +216,7 @@ lands_computes s t put w i rd value access wrote elsewhere ready accesses straig
       place = ready.place;
       held = ready.held;
       heap_low = ready.heap_low;
+      heap_end = ready.heap_end;
       buffers = ready.buffers;
     })
     accesses straight same
@@ -216,12 +224,20 @@ lands_computes s t put w i rd value access wrote elsewhere ready accesses straig
 -- a state that differs from s in its registers, heap end and exit code alone
 same_memory :
     (s : State) (regs : List ℕ) (brk : ℕ) (exit : Option ℕ)
-    → Ready s (record s { regs = regs; brk = brk; exit = exit }) None None
-same_memory s regs brk exit =
-    record { pc = refl; words = refl; place = tt; held = tt; heap_low = refl; buffers = refl }
+    → IsHeapEnd s brk → Ready s (record s { regs = regs; brk = brk; exit = exit }) None None
+same_memory s regs brk exit end =
+    record {
+      pc = refl;
+      words = refl;
+      place = tt;
+      held = tt;
+      heap_low = refl;
+      heap_end = end;
+      buffers = refl;
+    }
 
 unchanged : (s : State) → Ready s s None None
-unchanged s = same_memory s s.regs s.brk s.exit
+unchanged s = same_memory s s.regs s.brk s.exit (inl refl)
 
 lands_branches :
     (s : State) (w : ℕ) (i : Inst) (taken : Bool) (target : ℕ)
@@ -246,7 +262,7 @@ lands_jumps s w i rd target control memory is transfer =
     let regs : List ℕ = write s.regs rd (following s.pc) in
     lands_if s w (target % 4 == 0) _ _ _ _
     (λ at. lands_completes s (record s { regs = regs }) None w i None control target None _
-    (same_memory s regs s.brk s.exit) (λ pc. eqb-true (target % 4) 0 at) (rw memory) (cc)
+    (same_memory s regs s.brk s.exit (inl refl)) (λ pc. eqb-true (target % 4) 0 at) (rw memory) (cc)
     (λ m found. refl))
     (λ at. lands_stopped s w _ _)
 
@@ -255,12 +271,12 @@ abbrev pub IsCall : Inst → Type 0
 IsCall i = (is_memory (class_of i) ≡ false) × (is_control (class_of i) ≡ false)
 
 lands_answers :
-    (s : State) (w : ℕ) (i : Inst) (brk value : ℕ) (wrote : Option Buffer) → IsCall i
+    (s : State) (w : ℕ) (i : Inst) (brk value : ℕ) (wrote : Option Buffer) → IsCall i → IsHeapEnd s brk
     → Lands s w (answers (record s { brk = brk }) w i value wrote)
     (λ m. answers (record (over s m) { brk = brk }) w i value wrote)
-lands_answers s w i brk value wrote is =
+lands_answers s w i brk value wrote is end =
     lands_computes s (record s { brk = brk }) None w i 10 value None wrote _
-    (same_memory s s.regs brk s.exit) (rw is.0) is.1 (λ m found. refl)
+    (same_memory s s.regs brk s.exit end) (rw is.0) is.1 (λ m found. refl)
 
 lands_writes :
     (s : State) (w : ℕ) (i : Inst) → IsCall i
@@ -271,10 +287,10 @@ lands_writes s w i is =
     let count = read s.regs 12 in
     lands_if s w ((read s.regs 10 == 1) || (read s.regs 10 == 2)) _ _ _ _
     (λ known. lands_if s w (count == 0) _ _ _ _
-    (λ none. lands_answers s w i s.brk 0 None is)
+    (λ none. lands_answers s w i s.brk 0 None is (inl refl))
     (λ some. lands_guard s w (passes s.buffers addr count) _ trap.BadBuffer _
-    (lands_answers s w i s.brk count (Some (record { addr = addr; len = count })) is)))
-    (λ unknown. lands_answers s w i s.brk (2 ^ 32 - 9) None is)
+    (lands_answers s w i s.brk count (Some (record { addr = addr; len = count })) is (inl refl))))
+    (λ unknown. lands_answers s w i s.brk (2 ^ 32 - 9) None is (inl refl))
 
 lands_exits :
     (s : State) (w : ℕ) (i : Inst) → IsCall i → Lands s w (exits s w i) (λ m. exits (over s m) w i)
@@ -282,7 +298,7 @@ unfolding exits
 lands_exits s w i is =
     let code : Option ℕ = Some (read s.regs 10) in
     lands_goes_on s (record s { exit = code }) None w i None None _
-    (same_memory s s.regs s.brk code) (rw is.0) is.1 (λ m found. refl)
+    (same_memory s s.regs s.brk code (inl refl)) (rw is.0) is.1 (λ m found. refl)
 
 lands_sets_break :
     (s : State) (w : ℕ) (i : Inst) → IsCall i
@@ -291,8 +307,9 @@ unfolding sets_break
 lands_sets_break s w i is =
     let value = read s.regs 10 in
     lands_if s w (nat_le s.heap_low value && nat_le value (s.heap_low + 2 ^ 26)) _ _ _ _
-    (λ within. lands_answers s w i value value None is)
-    (λ outside. lands_answers s w i s.brk s.brk None is)
+    (λ within. lands_answers s w i value value None is
+    (inr (grind (arith, nat_tests), grind (arith, nat_tests))))
+    (λ outside. lands_answers s w i s.brk s.brk None is (inl refl))
 
 lands_calls :
     (s : State) (w : ℕ) (i : Inst) → IsCall i → Lands s w (calls s w i) (λ m. calls (over s m) w i)
@@ -305,7 +322,7 @@ lands_calls s w i is =
     (λ exit. lands_exits s w i is)
     (λ other. lands_if s w (number == 214) _ _ _ _
     (λ brk. lands_sets_break s w i is)
-    (λ other. lands_answers s w i s.brk (2 ^ 32 - 38) None is)))
+    (λ other. lands_answers s w i s.brk (2 ^ 32 - 38) None is (inl refl))))
 
 -- a load, by whether its address is aligned and its word is held
 lands_loads :
@@ -323,7 +340,15 @@ lands_loads s w i rd addr size signed true None misaligned is memory straight =
 lands_loads s w i rd addr size signed true (Some before) misaligned is memory straight =
     lands_computes s s None w i rd (loaded size signed before addr)
     (Some (record { addr = addr; store = false; before = before })) None _
-    (record { pc = refl; words = refl; place = tt; held = is; heap_low = refl; buffers = refl })
+    (record {
+      pc = refl;
+      words = refl;
+      place = tt;
+      held = is;
+      heap_low = refl;
+      heap_end = inl refl;
+      buffers = refl;
+    })
     (rw memory) straight (λ m same. rw same refl)
 
 lands_stores :
@@ -343,7 +368,15 @@ lands_stores s w i addr size value true (Some before) misaligned is memory strai
     let place : ℕ = addr - addr % 4 in
     lands_goes_on s (record s { words = stored s.words place after }) (Some (place, after)) w i
     (Some (record { addr = addr; store = true; before = before })) None _
-    (record { pc = refl; words = refl; place = refl; held = is; heap_low = refl; buffers = refl })
+    (record {
+      pc = refl;
+      words = refl;
+      place = refl;
+      held = is;
+      heap_low = refl;
+      heap_end = inl refl;
+      buffers = refl;
+    })
     (rw memory) straight (λ m same. rw same refl)
 
 lands_perform :
@@ -382,7 +415,7 @@ record Fetches (s : State) (e : Event) (after : State) : Type 0 where
 
 fetches_by :
     (s : State) (e : Event) (after : State) (found : Option ℕ)
-    → word_at s.words s.pc ≡ found → fetched found s ≡ Went e after → Fetches s e after
+    → word_at s.words s.pc ≡ found → executed found s ≡ Went e after → Fetches s e after
 fetches_by s e after None is went = absurd (cc)
 fetches_by s e after (Some w) is went =
     let P : Outcome → Type 0 =
@@ -420,6 +453,7 @@ stepped s e after went =
       held = d.held;
       moves = d.moves;
       heap_low = d.heap_low;
+      heap_end = d.heap_end;
       buffers = d.buffers;
       again =
           λ m found data_found.

@@ -9,10 +9,10 @@ use Rattle.rv_exec.specs.declared.event.Buffer.{Buffer}
 use Rattle.rv_exec.specs.Memory.{Words, Mapped, passes}
 use Rattle.rv_exec.specs.Machine.{State, Went}
 use Rattle.rv_exec.specs.Next.{next}
-use Rattle.rv_exec.proofs.Steps.{stepped}
+use Rattle.rv_exec.proofs.StepsLemmas.{stepped}
 use Rattle.rv_machine.specs.Machine.{Machine, WantsMemory}
 use Rattle.rv_machine.specs.Output.{byte_at, bytes_at}
-use Rattle.rv_machine.proofs.Writes.{IsWrite, wrote}
+use Rattle.rv_machine.proofs.WriteLemmas.{IsWrite, wrote}
 
 -- a buffer that a whole machine lets pass ends below 2^32
 pub end_of :

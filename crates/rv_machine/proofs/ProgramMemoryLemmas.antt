@@ -12,7 +12,7 @@ use Rattle.std.proofs.Common.{eq-eqb}
 use Rattle.std.proofs.lemmas.List.{append-nil}
 use Rattle.std.proofs.lemmas.Bool.Decides.{nat_tests}
 use Rattle.rv_exec.specs.Memory.{Words, word_at, stored}
-use Rattle.rv_machine.specs.Blocks.{block, words_of, AreBlocks, IsPlace}
+use Rattle.rv_machine.specs.ProgramMemory.{block, words_of, AreBlocks, IsPlace}
 
 -- the first entry is that of the key, or it is passed over
 here :

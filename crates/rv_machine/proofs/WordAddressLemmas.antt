@@ -6,8 +6,8 @@ use Rattle.std.specs.Ordering.{nat_cmp}
 use Rattle.std.proofs.lemmas.Bool.{cases_eq}
 use Rattle.std.proofs.lemmas.Option.{slice_get-get_or}
 use Rattle.rv_exec.specs.Memory.{Buffers, Mapped, IsMapped, word_at}
-use Rattle.rv_machine.specs.Blocks.{block, words_of, AreBlocks, IsWordAddress}
-use Rattle.rv_machine.proofs.Finds.{find_hit, find_miss, past, entries_of}
+use Rattle.rv_machine.specs.ProgramMemory.{block, words_of, AreBlocks, IsWordAddress}
+use Rattle.rv_machine.proofs.ProgramMemoryLemmas.{find_hit, find_miss, past, entries_of}
 
 -- an address has a word exactly where one of the two blocks has it
 some_found :

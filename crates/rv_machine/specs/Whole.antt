@@ -2,7 +2,7 @@
 use Rattle.rv_exec.specs.Memory.{Mapped}
 use Rattle.rv_exec.specs.Machine.{state}
 use Rattle.rv_machine.specs.declared.whole.Whole.TheInside.{Inside}
-use Rattle.rv_machine.specs.Blocks.{words_of, AreBlocks}
+use Rattle.rv_machine.specs.ProgramMemory.{words_of, AreBlocks}
 use Rattle.rv_machine.specs.Machine.{Machine}
 
 abbrev pub view_of : Inside → Machine

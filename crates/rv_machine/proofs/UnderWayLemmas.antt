@@ -12,19 +12,21 @@ use Rattle.rv_exec.specs.Machine.{State, Went, Stopped}
 use Rattle.rv_exec.specs.Next.{next}
 use Rattle.rv_machine.specs.declared.outcome.Outcome.TheVariants.{Exited, Trapped, Spent}
 use Rattle.rv_machine.specs.declared.outcome.MachineFault.TheVariants.{Trap}
-use Rattle.rv_machine.specs.Output.{given}
-use Rattle.rv_machine.specs.Machine.{Machine, joined, machine_after, Advances, IsUnderWay}
-use Rattle.rv_machine.specs.Running.{moved, written, state_after, step_at, output_after, is_last, ended_by, ended_at, outcome_of}
+use Rattle.rv_machine.specs.Output.{buffer_bytes, step_output, output_after}
+use Rattle.rv_machine.specs.Machine.{Machine, output_with, machine_after, Advances, IsUnderWay}
+use Rattle.rv_exec.specs.Runs.{run_of, state_after, step_at}
+use Rattle.rv_exec.proofs.RunsLemmas.{moved, state_behind}
+use Rattle.rv_machine.specs.Outcome.{is_last, ended_by, ended_at, outcome_of}
 
-joined_twice :
+output_twice :
     (keeps : Bool) (output one other : List ℕ)
-    → joined keeps (joined keeps output one) other ≡ joined keeps output (one ++ other)
-joined_twice true output one other = append_assoc output one other
-joined_twice false output one other = refl
+    → output_with keeps (output_with keeps output one) other ≡ output_with keeps output (one ++ other)
+output_twice true output one other = append_assoc output one other
+output_twice false output one other = refl
 
-joined_none : (keeps : Bool) (output : List ℕ) → joined keeps output [] ≡ output
-joined_none true output = append-nil output
-joined_none false output = refl
+output_none : (keeps : Bool) (output : List ℕ) → output_with keeps output [] ≡ output
+output_none true output = append-nil output
+output_none false output = refl
 
 same_machine :
     (m : Machine) (s : State) (keeps : Bool) (output : List ℕ)
@@ -37,18 +39,18 @@ moved_on :
     → exit ≡ None → outcome ≡ Went event after → moved exit outcome before ≡ after
 moved_on exit outcome event before after running went = rw (running, went) refl
 
-written_by :
+step_output_by :
     (exit : Option ℕ) (outcome : step.Outcome) (event : Event) (after : State)
     → exit ≡ None → outcome ≡ Went event after
-    → written exit outcome ≡ given after.words event.wrote
-written_by exit outcome event after running went = rw (running, went) refl
+    → step_output exit outcome ≡ buffer_bytes after.words event.wrote
+step_output_by exit outcome event after running went = rw (running, went) refl
 
 -- a run begins at its start
 pub at_start : (start : Machine) → start.state.exit ≡ None → IsUnderWay start 0 start
-unfolding state_after output_after
+unfolding run_of output_after
 at_start start running = record {
   machine = same_machine start start.state start.keeps _ refl refl
-      (sym (joined_none start.keeps start.output));
+      (sym (output_none start.keeps start.output));
   running = running;
   goes_on = λ k h. absurd (omega arith);
 }
@@ -63,26 +65,26 @@ step_here start now at way = ap (λ (m : Machine). next m.state) (sym way.machin
 pub advanced :
     (start old new : Machine) (at : ℕ) (event : Event)
     → IsUnderWay start at old → Advances old (Ok event) new → new ≡ machine_after start (at + 1)
-unfolding state_after output_after
+unfolding output_after
 advanced start old new at event way step =
     let here : state_after start.state at ≡ old.state = ap (λ (m : Machine). m.state) (sym way.machine) in
     let exit : (state_after start.state at).exit ≡ None = ap (λ (s : State). s.exit) here ∙ way.running in
     let went : next (state_after start.state at) ≡ Went event new.state = ap next here ∙ step.0 in
     let keeps : old.keeps ≡ start.keeps = ap (λ (m : Machine). m.keeps) way.machine in
-    let output : old.output ≡ joined start.keeps start.output (output_after start.state at) =
+    let output : old.output ≡ output_with start.keeps start.output (output_after start.state at) =
     ap (λ (m : Machine). m.output) way.machine in
     let before : List ℕ = output_after start.state at in
-    let bytes : List ℕ = given new.state.words event.wrote in
+    let bytes : List ℕ = buffer_bytes new.state.words event.wrote in
     let all : before ++ bytes ≡ output_after start.state (at + 1) =
-    rw add-one (ap (λ (b : List ℕ). before ++ b) (sym (written_by _ _ event new.state exit went))) in
+    rw add-one (ap (λ (b : List ℕ). before ++ b) (sym (step_output_by _ _ event new.state exit went))) in
     same_machine new _ start.keeps _
-    (rw add-one (sym (moved_on _ _ event _ new.state exit went)))
+    (sym (state_behind start.state at ∙ moved_on _ _ event _ new.state exit went))
     (step.1 ∙ keeps)
     (step.2
-    ∙ ap (λ (k : Bool). joined k old.output bytes) keeps
-    ∙ ap (λ (o : List ℕ). joined start.keeps o bytes) output
-    ∙ joined_twice start.keeps start.output before bytes
-    ∙ ap (λ (o : List ℕ). joined start.keeps start.output o) all)
+    ∙ ap (λ (k : Bool). output_with k old.output bytes) keeps
+    ∙ ap (λ (o : List ℕ). output_with start.keeps o bytes) output
+    ∙ output_twice start.keeps start.output before bytes
+    ∙ ap (λ (o : List ℕ). output_with start.keeps start.output o) all)
 
 pub goes_on :
     (start old new : Machine) (at : ℕ) (event : Event)

@@ -6,11 +6,11 @@ use Rattle.std.proofs.lemmas.List.{get_or_append_left}
 use Rattle.std.proofs.lemmas.Option.{slice_get-get_or}
 use Rattle.elf_image.specs.Image.{ImageValue, IsImage, is_word_address}
 use Rattle.rv_exec.specs.Memory.{word_at}
-use Rattle.rv_machine.specs.Blocks.{AreBlocks, IsWordAddress}
+use Rattle.rv_machine.specs.ProgramMemory.{AreBlocks, IsWordAddress}
 use Rattle.rv_machine.specs.Laws.{StartWords}
 use Rattle.rv_machine.specs.Start.{zeros, start_words, start_of}
-use Rattle.rv_machine.proofs.Addresses.{word_where, word_first, word_second}
-use Rattle.rv_machine.proofs.Fronts.{length_zeros, zero_read, zero_word}
+use Rattle.rv_machine.proofs.WordAddressLemmas.{word_where, word_first, word_second}
+use Rattle.rv_machine.proofs.BlockLemmas.{length_zeros, zero_read, zero_word}
 
 start_blocks :
     (image : ImageValue) → IsImage image

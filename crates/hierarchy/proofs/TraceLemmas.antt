@@ -1,6 +1,6 @@
 -- Marked traces of parts of a run.
 use Rattle.std.proofs.Common.{◌≡◌, ℕ, suc, ◌+◌, ◌-◌, ◌<◌, List, [], ◌∷◌, ◌++◌, length, drop, take, refl, sym, ◌∙◌, ap, arith, Option, Some, None, Ok, Err}
-use Rattle.smarts_base.specs.Least.{or_else}
+use Rattle.std.specs.Option.{option_or}
 use Rattle.rv_exec.specs.Machine as machine
 use Rattle.rv_exec.specs.Machine.{Outcome, Went, Stopped}
 use Rattle.rv_exec.specs.Next.{next}
@@ -9,17 +9,32 @@ use Rattle.rv_exec.specs.declared.event.TrapKind.{TrapKind}
 use Rattle.hierarchy.specs.declared.marked.Marked.{Marked}
 use Rattle.hierarchy.specs.declared.state.State.{State}
 use Rattle.hierarchy.specs.declared.widths.Latencies.{Latencies}
-use Rattle.hierarchy.specs.Marking.{mark_of, after_event}
-use Rattle.hierarchy.specs.Runs.{Halt, Trapped, AfterExit, Run, halted, run_of, joined, after_events, marks, unless_halted, trace, IsAnnotated}
+use Rattle.hierarchy.specs.State.{mark_of, after_event, after_events}
+use Rattle.hierarchy.specs.Trace.{marks, unless_halted, trace, IsAnnotated}
+use Rattle.rv_exec.specs.Runs.{Halt, Trapped, AfterExit, Run, halted, run_of, joined}
+use Rattle.rv_exec.proofs.RunsLemmas.{run_exited, run_trapped, runs_split, runs_whole, one_more}
 use Rattle.lru_plain.specs.Shape.{Shape}
 use Rattle.predictor.specs.declared.kind.PredictorKind.{PredictorKind}
 use Rattle.hierarchy.specs.declared.places.Places.{Places}
-use Rattle.hierarchy.specs.References.{warmed}
-use Rattle.hierarchy.proofs.Warms.{feeding}
-use Rattle.hierarchy.proofs.RunParts.{steps_went, run_exited, run_trapped, runs_split, runs_whole, marks_split, length-marks}
+use Rattle.hierarchy.specs.Warming.{warmed}
+use Rattle.hierarchy.proofs.WarmingLemmas.{feeding}
 use Rattle.std.proofs.Math.Seq.{drop-append_seam}
 use Rattle.std.proofs.lemmas.List.{take_at}
 use Rattle.std.proofs.lemmas.List.Sums.{fold-append}
+
+-- marks of parts of a list
+pub marks_split :
+    (l : Latencies) (s : State) (es fs : List Event)
+    → marks l s (es ++ fs) ≡ marks l s es ++ marks l (after_events s es) fs
+unfolding marks after_events
+marks_split l s [] fs = refl
+marks_split l s (e ∷ es) fs =
+    ap (λ (ms : List Marked). mark_of l s e ∷ ms) (marks_split l (after_event s e) es fs)
+
+pub length-marks : (l : Latencies) (s : State) (es : List Event) → length (marks l s es) ≡ length es
+unfolding marks
+length-marks l s [] = refl
+length-marks l s (e ∷ es) = ap suc (length-marks l (after_event s e) es)
 
 -- a trace that is whole is the marks of a run that wasn't halted
 record IsWhole (l : Latencies) (s : State) (r : Run) (ms : List Marked) : Type 0 where
@@ -47,11 +62,11 @@ unfolding trace
 from_whole l s m n ms w = rw (w.halt, w.marks_are) refl
 
 -- both parts of a run that wasn't halted weren't
-none_first : (x y : Option Halt) → or_else x y ≡ None → x ≡ None
+none_first : (x y : Option Halt) → option_or x y ≡ None → x ≡ None
 none_first None y h = refl
 none_first (Some halt) y h = cc
 
-none_second : (x y : Option Halt) → or_else x y ≡ None → y ≡ None
+none_second : (x y : Option Halt) → option_or x y ≡ None → y ≡ None
 none_second None y h = h
 none_second (Some halt) y h = cc
 
@@ -117,22 +132,6 @@ traces_begin l s m p n ms h =
 pub none_annotated : (l : Latencies) (s : State) (m : machine.State) → IsAnnotated l s m 0 [] m s
 unfolding trace run_of marks after_events
 none_annotated l s m = record { trace_is = refl; machine_is = refl; state_is = refl }
-
--- a run of one instruction
-one_step : (m after : machine.State) (e : Event) → m.exit ≡ None → next m ≡ Went e after
-    → run_of m 1 ≡ record { events = e ∷ []; after = after; halt = None }
-unfolding run_of
-one_step m after e exit is = steps_went m.exit (next m) m (λ t. run_of t 0) e after exit is
-
--- one more instruction is done
-pub one_more :
-    (m now after : machine.State) (n : ℕ) (e : Event) → now ≡ (run_of m n).after → now.exit ≡ None
-    → next now ≡ Went e after
-    → run_of m (n + 1) ≡ joined (run_of m n) (record { events = e ∷ []; after = after; halt = None })
-one_more m now after n e at exit is =
-    runs_split m n 1
-    ∙ ap (λ (t : Run). joined (run_of m n) t)
-    (ap (λ (x : machine.State). run_of x 1) (sym at) ∙ one_step now after e exit is)
 
 pub marks_more :
     (l : Latencies) (s : State) (es : List Event) (e : Event)
@@ -206,7 +205,7 @@ halted_behind l first s start now n more ms halt is stops =
     (runs_split start n (suc more)
     ∙ ap (λ (x : machine.State). joined (run_of start n) (run_of x (suc more))) (sym is.machine_is)
     ∙ ap (λ (r : Run). joined (run_of start n) r) stops)
-    ∙ ap (λ (x : Option Halt). or_else x (Some halt)) w.halt)
+    ∙ ap (λ (x : Option Halt). option_or x (Some halt)) w.halt)
 
 longer : (l : Latencies) (first : State) (m : machine.State) (n len : ℕ) (halt : Halt) → n < len
     → ((more : ℕ) → trace l first m (n + suc more) ≡ Err halt) → trace l first m len ≡ Err halt

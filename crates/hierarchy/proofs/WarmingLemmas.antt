@@ -10,30 +10,31 @@ use Rattle.predictor.specs.declared.kind.PredictorKind.{PredictorKind}
 use Rattle.predictor.specs.Tables.{Tables}
 use Rattle.predictor.specs.Rules.{trained, observed}
 use Rattle.predictor.proofs.Trains.{trained_more}
-use Rattle.rv_exec.specs.Events.{is_transfer}
+use Rattle.rv_exec.specs.Event.{is_transfer}
 use Rattle.rv_exec.specs.declared.event.DataRef.{DataRef}
 use Rattle.rv_exec.specs.declared.event.Event.{Event}
 use Rattle.rv_exec.specs.declared.event.Flow.{Flow}
 use Rattle.rv_exec.specs.declared.event.Flow.TheVariants.{Straight, Branch, Jal, Jalr}
 use Rattle.hierarchy.specs.declared.places.Places.{Places}
 use Rattle.hierarchy.specs.declared.state.State.{State}
-use Rattle.hierarchy.specs.Marking.{touched_at, fetched, referred, after_event}
-use Rattle.hierarchy.specs.References.{fetches, data_of, data_refs, all_refs, transfers, cache_after, caches_after, warmed}
-use Rattle.hierarchy.specs.Runs.{after_events}
+use Rattle.rv_exec.specs.References.{fetches, data_of, data_refs, all_refs, transfers}
+use Rattle.hierarchy.specs.Lookup.{touched_at, after_fetch, after_reference}
+use Rattle.hierarchy.specs.State.{after_event, after_events}
+use Rattle.hierarchy.specs.Warming.{cache_after, caches_after, warmed}
 
 -- one instruction more in each list
-fetches_more : (es : List Event) (e : Event) → fetches (es ++ e ∷ []) ≡ fetches es ++ e.pc ∷ []
+pub fetches_more : (es : List Event) (e : Event) → fetches (es ++ e ∷ []) ≡ fetches es ++ e.pc ∷ []
 unfolding fetches
 fetches_more es e = map-append (λ (x : Event). x.pc) es (e ∷ [])
 
-data_more : (es : List Event) (e : Event) → data_refs (es ++ e ∷ []) ≡ data_refs es ++ data_of e.access
+pub data_more : (es : List Event) (e : Event) → data_refs (es ++ e ∷ []) ≡ data_refs es ++ data_of e.access
 unfolding data_refs
 data_more [] e = append-nil (data_of e.access)
 data_more (x ∷ es) e =
     ap (λ (l : List ℕ). data_of x.access ++ l) (data_more es e)
     ∙ sym (append_assoc (data_of x.access) (data_refs es) (data_of e.access))
 
-all_more : (es : List Event) (e : Event) → all_refs (es ++ e ∷ []) ≡ all_refs es ++ e.pc ∷ data_of e.access
+pub all_more : (es : List Event) (e : Event) → all_refs (es ++ e ∷ []) ≡ all_refs es ++ e.pc ∷ data_of e.access
 unfolding all_refs
 all_more [] e = ap (λ (l : List ℕ). e.pc ∷ l) (append-nil (data_of e.access))
 all_more (x ∷ es) e =
@@ -47,19 +48,19 @@ touched_more g addrs addr = rw (plain_more addrs addr g) refl
 
 fetched_more :
     (g : Places Shape) (fs ds bs : List ℕ) (pc : ℕ)
-    → fetched (caches_after g fs ds bs) pc ≡ caches_after g (fs ++ pc ∷ []) ds (bs ++ pc ∷ [])
+    → after_fetch (caches_after g fs ds bs) pc ≡ caches_after g (fs ++ pc ∷ []) ds (bs ++ pc ∷ [])
 fetched_more g fs ds bs pc =
     rw (touched_more g.itlb fs pc, touched_more g.l1i fs pc, touched_more g.l2 bs pc) refl
 
 referred_more :
     (g : Places Shape) (fs ds bs : List ℕ) (access : Option DataRef)
-    → referred (caches_after g fs ds bs) access
+    → after_reference (caches_after g fs ds bs) access
     ≡ caches_after g fs (ds ++ data_of access) (bs ++ data_of access)
 referred_more g fs ds bs None = rw (append-nil ds, append-nil bs) refl
 referred_more g fs ds bs (Some d) =
     rw (touched_more g.dtlb ds d.addr, touched_more g.l1d ds d.addr, touched_more g.l2 bs d.addr) refl
 
-transfers_more :
+pub transfers_more :
     (es : List Event) (e : Event)
     → transfers (es ++ e ∷ []) ≡ transfers es ++ filter (λ x. is_transfer x.control) (e ∷ [])
 unfolding transfers
@@ -94,11 +95,11 @@ predictor_more kind es e =
 
 caches_more :
     (g : Places Shape) (es : List Event) (e : Event)
-    → referred (fetched (caches_after g (fetches es) (data_refs es) (all_refs es)) e.pc) e.access
+    → after_reference (after_fetch (caches_after g (fetches es) (data_refs es) (all_refs es)) e.pc) e.access
     ≡ caches_after g (fetches (es ++ e ∷ [])) (data_refs (es ++ e ∷ [])) (all_refs (es ++ e ∷ []))
 caches_more g es e =
     rw (fetches_more es e, data_more es e, all_more es e)
-    (ap (λ (c : Places Cache). referred c e.access)
+    (ap (λ (c : Places Cache). after_reference c e.access)
     (fetched_more g (fetches es) (data_refs es) (all_refs es) e.pc)
     ∙ referred_more g (fetches es ++ e.pc ∷ []) (data_refs es) (all_refs es ++ e.pc ∷ []) e.access
     ∙ ap (λ (l : List ℕ). caches_after g (fetches es ++ e.pc ∷ []) (data_refs es ++ data_of e.access) l)

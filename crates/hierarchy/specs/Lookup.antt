@@ -1,20 +1,13 @@
--- What caches and a predictor make of an instruction, and how they are after it.
-use Rattle.std.specs.Prelude.{ℕ, ◌+◌, ◌/◌, ◌==◌, Bool, true, false, if◌then◌else◌, Option, Some, None}
+-- What caches make of an instruction's references, and how they are after these.
+use Rattle.std.specs.Prelude.{ℕ, ◌+◌, ◌==◌, Bool, if◌then◌else◌, Option, Some, None}
 use Rattle.std.specs.List.{list_any}
-use Rattle.std.specs.Option.{option_map}
 use Rattle.lru_plain.specs.Shape.{block_of}
 use Rattle.lru_plain.specs.Cache.{Cache, set_for, touched}
-use Rattle.predictor.specs.Rules.{is_mispredicted, observed}
 use Rattle.rv_isa.specs.declared.roles.Class.{Class}
 use Rattle.rv_isa.specs.declared.roles.Class.TheVariants.{Alu, Mul, Div, Load, Store, Control, Ecall}
 use Rattle.rv_exec.specs.declared.event.DataRef.{DataRef}
-use Rattle.rv_exec.specs.declared.event.Event.{Event}
-use Rattle.rv_exec.specs.declared.event.Flow.{Flow}
-use Rattle.rv_exec.specs.declared.event.Flow.TheVariants.{Straight, Branch, Jal, Jalr}
 use Rattle.hierarchy.specs.declared.lookup.Hits.{Hits}
-use Rattle.hierarchy.specs.declared.marked.Marked.{Marked}
 use Rattle.hierarchy.specs.declared.places.Places.{Places}
-use Rattle.hierarchy.specs.declared.state.State.{State}
 use Rattle.hierarchy.specs.declared.widths.Latencies.{Latencies}
 
 -- the address's block is in its set
@@ -34,8 +27,8 @@ fetch_hits caches pc = record {
 }
 
 -- a fetch touches these three, the second cache even where the first one hits
-abbrev pub fetched : Places Cache → ℕ → Places Cache
-fetched caches pc = record caches {
+abbrev pub after_fetch : Places Cache → ℕ → Places Cache
+after_fetch caches pc = record caches {
   itlb = touched_at caches.itlb pc;
   l1i = touched_at caches.l1i pc;
   l2 = touched_at caches.l2 pc;
@@ -49,9 +42,9 @@ data_hits caches d = record {
   second = is_hit caches.l2 d.addr;
 }
 
-abbrev pub referred : Places Cache → Option DataRef → Places Cache
-referred caches None = caches
-referred caches (Some d) = record caches {
+abbrev pub after_reference : Places Cache → Option DataRef → Places Cache
+after_reference caches None = caches
+after_reference caches (Some d) = record caches {
   dtlb = touched_at caches.dtlb d.addr;
   l1d = touched_at caches.l1d d.addr;
   l2 = touched_at caches.l2 d.addr;
@@ -77,31 +70,3 @@ latency_of l Alu hits = 1
 latency_of l Store hits = 1
 latency_of l Control hits = 1
 latency_of l Ecall hits = 1
-
--- a taken branch, also one to the instruction behind it, or a jump
-abbrev pub is_transferred : Flow → Bool
-is_transferred Straight = false
-is_transferred (Branch taken) = taken
-is_transferred (Jal push) = true
-is_transferred (Jalr pop push) = true
-
--- the marks of an instruction, whose fetch comes before its reference to data
-unfoldable pub mark_of : Latencies → State → Event → Marked
-mark_of l s e = record {
-  class = e.class;
-  first = e.first;
-  second = e.second;
-  dest = e.dest;
-  word = option_map (λ d. d.addr / 4) e.access;
-  stall = delay l (fetch_hits s.caches e.pc);
-  latency = latency_of l e.class (option_map (data_hits (fetched s.caches e.pc)) e.access);
-  mispredicted = is_mispredicted s.predictor e;
-  transferred = is_transferred e.control;
-}
-
--- caches and predictor after an instruction
-unfoldable pub after_event : State → Event → State
-after_event s e = record {
-  caches = referred (fetched s.caches e.pc) e.access;
-  predictor = observed s.predictor e;
-}

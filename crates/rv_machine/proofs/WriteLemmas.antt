@@ -15,8 +15,11 @@ use Rattle.rv_exec.specs.declared.event.TrapKind.{TrapKind}
 use Rattle.rv_exec.specs.Word.{following}
 use Rattle.rv_exec.specs.Memory.{word_at, passes}
 use Rattle.rv_exec.specs.Machine.{State, Outcome, Went, Stopped, read}
-use Rattle.rv_exec.specs.Actions.{action_of}
-use Rattle.rv_exec.specs.Next.{completes, goes_on, computes, branches, jumps, calls, writes, exits, sets_break, answers, loads, stores, perform, decoded, fetched, next}
+use Rattle.rv_exec.specs.Action.{action_of}
+use Rattle.rv_exec.specs.Calls.{calls, writes, exits, sets_break, answers}
+use Rattle.rv_exec.specs.Data.{loads, stores}
+use Rattle.rv_exec.specs.Finish.{completes, goes_on, computes, branches, jumps}
+use Rattle.rv_exec.specs.Next.{perform, decoded, executed, next}
 
 -- the state behind a write call of the buffer, which was made in the state s
 pub record IsWrite (s : State) (b : Buffer) (after : State) : Type 0 where
@@ -148,9 +151,9 @@ writes_decoded : (s : State) (w : ℕ) (found : Option Inst) → Writes s (decod
 writes_decoded s w None = stopped s _
 writes_decoded s w (Some i) = writes_perform s w i (action_of s.pc s.regs i)
 
-writes_fetched : (s : State) (found : Option ℕ) → Writes s (fetched found s)
-writes_fetched s None = stopped s _
-writes_fetched s (Some w) = writes_decoded s w (decode_of w)
+writes_executed : (s : State) (found : Option ℕ) → Writes s (executed found s)
+writes_executed s None = stopped s _
+writes_executed s (Some w) = writes_decoded s w (decode_of w)
 
 -- a step whose event has a buffer is a write call of it
 pub wrote :
@@ -160,4 +163,4 @@ unfolding next
 wrote s after e b went is =
     let P : Outcome → Type 0 = λ o. Writes s o in
     let Q : Option Buffer → Type 0 = λ o. IfSome o (λ b. IsWrite s b after) in
-    subst Q is (subst P went (writes_fetched s (word_at s.words s.pc))).done
+    subst Q is (subst P went (writes_executed s (word_at s.words s.pc))).done
