@@ -1,4 +1,5 @@
-pub mod Givens
-pub mod Lengths
-pub mod Tables
-pub mod Numerals
+pub mod KeysLemmas
+pub mod LineLemmas
+pub mod NumberLemmas
+pub mod PartsLemmas
+pub mod WordsLemmas

@@ -8,9 +8,9 @@ use Rattle.smarts_text.specs.declared.keys.Form.{Form}
 use Rattle.smarts_text.specs.declared.keys.Form.TheVariants.{Number, Machine}
 use Rattle.smarts_text.specs.Keys as Keys
 use Rattle.smarts_text.specs.Keys.{Key}
-use Rattle.smarts_text.specs.Numerals.{number_read}
+use Rattle.smarts_text.specs.Number.{number_read}
 use Rattle.smarts_text.specs.Values.{machine_of}
-use Rattle.smarts_text.specs.Words.{given}
+use Rattle.smarts_text.specs.Words.{value_of}
 
 abbrev pub number_by : Form → List ℕ → Option ℕ
 number_by (Number low high usual) text = result_ok (number_read low high text)
@@ -23,7 +23,7 @@ usual_number form = 0
 -- the number of a key
 unfoldable pub number_in : List (List ℕ) → Key → ℕ
 number_in words key =
-    unwrap_or (option_and_then (number_by key.form) (given key.name words)) (usual_number key.form)
+    unwrap_or (option_and_then (number_by key.form) (value_of key.name words)) (usual_number key.form)
 
 abbrev pub is_usual_ruu : Form → Bool
 is_usual_ruu (Machine usual) = usual
@@ -33,7 +33,7 @@ is_usual_ruu form = true
 unfoldable pub is_ruu_in : List (List ℕ) → Bool
 is_ruu_in words =
     unwrap_or
-    (option_and_then machine_of (given Keys.machine_key.name words))
+    (option_and_then machine_of (value_of Keys.machine_key.name words))
     (is_usual_ruu Keys.machine_key.form)
 
 unfoldable pub design_in : List (List ℕ) → Design

@@ -15,7 +15,7 @@ use Rattle.smarts_text.specs.Asked.{number_in, is_ruu_in}
 use Rattle.smarts_text.specs.Keys as Keys
 use Rattle.smarts_text.specs.Keys.{Key}
 use Rattle.smarts_text.specs.Shapes.{cache_read, tlb_read, kind_read}
-use Rattle.smarts_text.specs.Words.{given}
+use Rattle.smarts_text.specs.Words.{value_of}
 
 abbrev pub shape : ℕ → ℕ → ℕ → Shape
 shape line_log sets_log ways = record { line_log = line_log; sets_log = sets_log; ways = ways }
@@ -39,21 +39,21 @@ usual_kind form = record { scheme = Bimodal; bits = 4; target_log = 2; depth = 0
 unfoldable pub cache_in : List (List ℕ) → Key → Shape
 cache_in words key =
     unwrap_or
-    (option_and_then (λ text. result_ok (cache_read text)) (given key.name words))
+    (option_and_then (λ text. result_ok (cache_read text)) (value_of key.name words))
     (usual_cache key.form)
 
 -- the TLB of a key
 unfoldable pub tlb_in : List (List ℕ) → Key → Shape
 tlb_in words key =
     unwrap_or
-    (option_and_then (λ text. result_ok (tlb_read text)) (given key.name words))
+    (option_and_then (λ text. result_ok (tlb_read text)) (value_of key.name words))
     (usual_tlb key.form)
 
 -- the predictor of a key
 unfoldable pub kind_in : List (List ℕ) → Key → PredictorKind
 kind_in words key =
     unwrap_or
-    (option_and_then (λ text. result_ok (kind_read text)) (given key.name words))
+    (option_and_then (λ text. result_ok (kind_read text)) (value_of key.name words))
     (usual_kind key.form)
 
 unfoldable pub places_in : List (List ℕ) → Places Shape

@@ -8,7 +8,8 @@ use Rattle.predictor.specs.declared.kind.Scheme.{Scheme}
 use Rattle.predictor.specs.declared.kind.Scheme.TheVariants.{Bimodal, Gshare}
 use Rattle.smarts_text.specs.declared.read.WordKind.{WordKind}
 use Rattle.smarts_text.specs.declared.shapes.Three.{Three}
-use Rattle.smarts_text.specs.Numerals.{parts_round, number_of, within, judged}
+use Rattle.smarts_text.specs.Number.{number_of, within, judged}
+use Rattle.smarts_text.specs.Parts.{parts_round}
 
 infixl 10 ◌>>=◌
 -- what comes next where there is a value
@@ -73,11 +74,11 @@ scheme_and_three text = do
 
 -- the kind with so many bits, such a target table, and so deep a stack
 unfoldable pub kind_within : Scheme × Three → Option PredictorKind
-kind_within written = do
-  bits ← within 4 14 written.1.first
-  target_log ← within 2 10 written.1.second
-  depth ← within 0 16 written.1.third
-  Some (record { scheme = written.0; bits = bits; target_log = target_log; depth = depth })
+kind_within named = do
+  bits ← within 4 14 named.1.first
+  target_log ← within 2 10 named.1.second
+  depth ← within 0 16 named.1.third
+  Some (record { scheme = named.0; bits = bits; target_log = target_log; depth = depth })
 
 abbrev pub kind_read : List ℕ → Result PredictorKind WordKind
 kind_read text = judged kind_within (scheme_and_three text)

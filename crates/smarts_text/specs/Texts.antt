@@ -3,7 +3,7 @@ use Rattle.std.specs.Prelude.{◌≡◌, ◌≤◌, length, drop, ◌++◌, ◌/
 use Rattle.std.specs.Fmt.{decimal, digit_glyph}
 use Rattle.smarts_text.specs.declared.status.Status.{Status}
 use Rattle.smarts_text.specs.declared.status.Status.TheVariants as statuses
-use Rattle.smarts_text.specs.Numbers.{word_number, image_number, trap_number, design_number, design_value}
+use Rattle.smarts_text.specs.Status.{word_number, image_number, trap_number, design_number, design_value}
 
 -- the last digits of a number to the base 16, in lower case
 abbrev pub hex_digits : ℕ → ℕ → List ℕ

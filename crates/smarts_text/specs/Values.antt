@@ -7,7 +7,7 @@ use Rattle.smarts_text.specs.declared.keys.Form.{Form}
 use Rattle.smarts_text.specs.declared.keys.Form.TheVariants.{Number, Machine, Cache, Tlb, Kind}
 use Rattle.smarts_text.specs.declared.read.WordKind.{WordKind}
 use Rattle.smarts_text.specs.declared.read.WordKind.TheVariants.{BadValue}
-use Rattle.smarts_text.specs.Numerals.{number_read}
+use Rattle.smarts_text.specs.Number.{number_read}
 use Rattle.smarts_text.specs.Shapes.{cache_read, tlb_read, kind_read}
 
 -- whether the machine is the one with a register update unit

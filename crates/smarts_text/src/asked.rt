@@ -2,27 +2,26 @@ ghost use Rattle.std.specs.Prelude.{◌≡◌, map, string_bytes};
 ghost use Rattle.confidence.specs.Confidence as confidence_specs;
 ghost use Rattle.sample_design.specs.Design as design_specs;
 ghost use Rattle.smarts_text.specs.Asked.{design_in, is_ruu_in, number_in, test_in};
-ghost use Rattle.smarts_text.specs.Checks.{IsUsual, IsWithin};
-ghost use Rattle.smarts_text.specs.Rows.{key_of};
+ghost use Rattle.smarts_text.specs.Keys.{IsUsual, IsWithin, key_of};
 
-use crate::keys::{self, Form, Row};
+use crate::keys::{self, Form, Key};
 use crate::number::read_number;
 use crate::values::is_ruu;
-use crate::words::given;
+use crate::words::value_of;
 use confidence::Test;
 use sample_design::Design;
 
 /// The number of a key that has numbers.
 #[tactic(auto, unfolding(crate::specs::Asked::number_in))]
-pub fn number(words: &[String], key: &Row) -> u64
-    requires { IsUsual key.now.2 }
+pub fn number(words: &[String], key: &Key) -> u64
+    requires { IsUsual key.now.form }
     ensures value { result ≡ number_in (map string_bytes words.now) (key_of key.now) }
-    ensures within { IsWithin key.now.2 result }
+    ensures within { IsWithin key.now.form result }
 {
-    let Form::Number(low, high, usual) = key.2 else {
+    let Form::Number(low, high, usual) = key.form else {
         return 0;
     };
-    let Some(text) = given(key.0, words) else {
+    let Some(text) = value_of(key.name, words) else {
         return usual;
     };
     read_number(low, high, text).unwrap_or(usual)
@@ -33,11 +32,11 @@ pub fn number(words: &[String], key: &Row) -> u64
 pub fn wants_ruu(words: &[String]) -> bool
     ensures { result ≡ is_ruu_in (map string_bytes words.now) }
 {
-    let usual = match keys::MACHINE.2 {
+    let usual = match keys::MACHINE.form {
         Form::Machine(usual) => usual,
         _ => true,
     };
-    let Some(text) = given(keys::MACHINE.0, words) else {
+    let Some(text) = value_of(keys::MACHINE.name, words) else {
         return usual;
     };
     is_ruu(text).unwrap_or(usual)

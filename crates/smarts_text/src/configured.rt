@@ -3,15 +3,14 @@ ghost use Rattle.hierarchy.specs.Config.{ArePlaces, IsCacheShape, IsConfig, IsTl
 ghost use Rattle.hierarchy.specs.Widths.{AreLatencies, AreWidths};
 ghost use Rattle.predictor.specs.Kind.{IsKind};
 ghost use Rattle.smarts_text.specs.Asked.{number_in};
-ghost use Rattle.smarts_text.specs.Checks.{IsUsual};
+ghost use Rattle.smarts_text.specs.Keys.{IsUsual, key_of};
 ghost use Rattle.smarts_text.specs.Configured.{cache_in, config_in, kind_in, latencies_in, places_in, tlb_in, usual_cache, usual_kind, usual_tlb, widths_in};
 ghost use Rattle.smarts_text.specs.Keys as key_specs;
-ghost use Rattle.smarts_text.specs.Rows.{key_of};
 
 use crate::asked::{number, wants_ruu};
-use crate::keys::{self, Form, Row};
+use crate::keys::{self, Form, Key};
 use crate::shapes::{read_cache, read_kind, read_tlb};
-use crate::words::given;
+use crate::words::value_of;
 use hierarchy::{Config, Latencies, Places, Widths};
 use lru_plain::Geometry;
 use predictor::{PredictorKind, Scheme};
@@ -57,39 +56,39 @@ fn usual_kind(form: Form) -> PredictorKind
 
 // The cache of a key that has caches.
 #[tactic(auto, unfolding(crate::specs::Configured::cache_in))]
-fn cache(words: &[String], key: &Row) -> Geometry
-    requires { IsUsual key.now.2 }
+fn cache(words: &[String], key: &Key) -> Geometry
+    requires { IsUsual key.now.form }
     ensures value { result ≡ cache_in (map string_bytes words.now) (key_of key.now) }
     ensures shape { IsCacheShape result }
 {
-    let usual = usual_cache(key.2);
-    let Some(text) = given(key.0, words) else {
+    let usual = usual_cache(key.form);
+    let Some(text) = value_of(key.name, words) else {
         return usual;
     };
     read_cache(text).unwrap_or(usual)
 }
 
 #[tactic(auto, unfolding(crate::specs::Configured::tlb_in))]
-fn tlb(words: &[String], key: &Row) -> Geometry
-    requires { IsUsual key.now.2 }
+fn tlb(words: &[String], key: &Key) -> Geometry
+    requires { IsUsual key.now.form }
     ensures value { result ≡ tlb_in (map string_bytes words.now) (key_of key.now) }
     ensures shape { IsTlbShape result }
 {
-    let usual = usual_tlb(key.2);
-    let Some(text) = given(key.0, words) else {
+    let usual = usual_tlb(key.form);
+    let Some(text) = value_of(key.name, words) else {
         return usual;
     };
     read_tlb(text).unwrap_or(usual)
 }
 
 #[tactic(auto, unfolding(crate::specs::Configured::kind_in))]
-fn kind(words: &[String], key: &Row) -> PredictorKind
-    requires { IsUsual key.now.2 }
+fn kind(words: &[String], key: &Key) -> PredictorKind
+    requires { IsUsual key.now.form }
     ensures value { result ≡ kind_in (map string_bytes words.now) (key_of key.now) }
     ensures kind { IsKind result }
 {
-    let usual = usual_kind(key.2);
-    let Some(text) = given(key.0, words) else {
+    let usual = usual_kind(key.form);
+    let Some(text) = value_of(key.name, words) else {
         return usual;
     };
     read_kind(text).unwrap_or(usual)
@@ -111,9 +110,9 @@ fn places(words: &[String]) -> Places<Geometry>
 
 #[tactic(auto, unfolding(crate::specs::Configured::widths_in))]
 fn widths(words: &[String]) -> Widths
-    requires { number_in (map string_bytes words.now) key_specs.lsq_key ≤ number_in (map string_bytes words.now) key_specs.ruu_key }
     ensures value { result ≡ widths_in (map string_bytes words.now) }
-    ensures ranges { AreWidths result }
+    ensures ranges { number_in (map string_bytes words.now) key_specs.lsq_key ≤ number_in (map string_bytes words.now) key_specs.ruu_key
+        → AreWidths result }
 {
     Widths {
         fetch: number(words, &keys::FETCH) as u32,
@@ -148,12 +147,13 @@ fn latencies(words: &[String]) -> Latencies
     }
 }
 
-/// The processor that the words ask for.
+/// The processor that the words ask for, which can be built where the load and store queue has no more places
+/// than the register update unit.
 #[tactic(auto, unfolding(crate::specs::Configured::config_in))]
 pub fn config(words: &[String]) -> Config
-    requires { number_in (map string_bytes words.now) key_specs.lsq_key ≤ number_in (map string_bytes words.now) key_specs.ruu_key }
     ensures value { result ≡ config_in (map string_bytes words.now) }
-    ensures ranges { IsConfig result }
+    ensures ranges { number_in (map string_bytes words.now) key_specs.lsq_key ≤ number_in (map string_bytes words.now) key_specs.ruu_key
+        → IsConfig result }
 {
     Config {
         ruu: wants_ruu(words),

@@ -1,7 +1,6 @@
 ghost use Rattle.std.specs.Prelude.{◌≡◌, map, option_map};
-ghost use Rattle.std.specs.List.{find};
-ghost use Rattle.smarts_text.specs.Keys.{is_key, keys, form_in};
-ghost use Rattle.smarts_text.specs.Rows.{key_of};
+ghost use Rattle.std.specs.List.{find, list_any};
+ghost use Rattle.smarts_text.specs.Keys.{form_in, is_key, is_same, key_of, keys};
 
 use predictor::{PredictorKind, Scheme};
 
@@ -21,96 +20,130 @@ pub enum Form {
     Kind(PredictorKind),
 }
 
-/// A key: its name, the letters of the commands that have it, and what its values are.
+/// A group of keys, of which a command has every one or none.
+#[derive(Clone, Copy, Debug, PartialEq, Eq)]
+pub enum Group {
+    /// Which units of a run are measured, and in which order.
+    Design,
+    /// The most instructions of a run.
+    Budget,
+    /// When the sample is large enough.
+    Test,
+    Caches,
+    Predictor,
+    /// The machine that is timed, its widths and its latencies.
+    Timing,
+    /// The size of a generated program.
+    Size,
+}
+
+/// A key: its name, the group that it stands in, and what its values are.
 #[derive(Clone, Copy, Debug)]
-pub struct Row(pub &'static str, pub &'static [u8], pub Form);
+pub struct Key {
+    pub name: &'static str,
+    pub group: Group,
+    pub form: Form,
+}
 
-pub const UNIT: Row = Row("unit", b"sd", Form::Number(16, 10_000, 1000));
+// A constant can call no function.
+macro_rules! key {
+    ($name:expr, $group:ident, $form:expr) => {
+        Key {
+            name: $name,
+            group: Group::$group,
+            form: $form,
+        }
+    };
+}
 
-pub const WARM: Row = Row("warm", b"sd", Form::Number(0, 100_000, 2000));
+pub const UNIT: Key = key!("unit", Design, Form::Number(16, 10_000, 1000));
 
-pub const EVERY: Row = Row("every", b"sd", Form::Number(1, 1_000_000, 100));
+pub const WARM: Key = key!("warm", Design, Form::Number(0, 100_000, 2000));
 
-pub const OFFSET: Row = Row("offset", b"sd", Form::Number(0, 999_999, 0));
+pub const EVERY: Key = key!("every", Design, Form::Number(1, 1_000_000, 100));
 
-pub const SEED: Row = Row("seed", b"sd", Form::Number(0, 1_000_000_000_000_000_000, 1));
+pub const OFFSET: Key = key!("offset", Design, Form::Number(0, 999_999, 0));
 
-pub const BUDGET: Row = Row("budget", b"srd", Form::Number(1, 1 << 36, 1_000_000_000));
-
-pub const MIN: Row = Row("min", b"sd", Form::Number(2, 65_536, 30));
-
-pub const Z: Row = Row("z", b"sd", Form::Number(1, 4000, 3000));
-
-pub const ERROR: Row = Row("error", b"sd", Form::Number(1, 5000, 300));
-
-pub const MACHINE: Row = Row("machine", b"sd", Form::Machine(true));
-
-pub const L1I: Row = Row("l1i", b"sd", Form::Cache(6, 6, 4));
-
-pub const L1D: Row = Row("l1d", b"sd", Form::Cache(6, 6, 4));
-
-pub const L2: Row = Row("l2", b"sd", Form::Cache(6, 9, 8));
-
-pub const ITLB: Row = Row("itlb", b"sd", Form::Tlb(3, 4));
-
-pub const DTLB: Row = Row("dtlb", b"sd", Form::Tlb(4, 4));
-
-pub const PREDICTOR: Row = Row(
-    "predictor",
-    b"sd",
-    Form::Kind(PredictorKind {
-        scheme: Scheme::Gshare,
-        bits: 12,
-        target_log: 9,
-        depth: 8,
-    }),
+pub const SEED: Key = key!(
+    "seed",
+    Design,
+    Form::Number(0, 1_000_000_000_000_000_000, 1)
 );
 
-pub const FETCH: Row = Row("fetch", b"sd", Form::Number(1, 8, 4));
+pub const BUDGET: Key = key!("budget", Budget, Form::Number(1, 1 << 36, 1_000_000_000));
 
-pub const DISPATCH: Row = Row("dispatch", b"sd", Form::Number(1, 8, 4));
+pub const MIN: Key = key!("min", Test, Form::Number(2, 65_536, 30));
 
-pub const ISSUE: Row = Row("issue", b"sd", Form::Number(1, 8, 4));
+pub const Z: Key = key!("z", Test, Form::Number(1, 4000, 3000));
 
-pub const RETIRE: Row = Row("retire", b"sd", Form::Number(1, 8, 4));
+pub const ERROR: Key = key!("error", Test, Form::Number(1, 5000, 300));
 
-pub const QUEUE: Row = Row("queue", b"sd", Form::Number(1, 32, 8));
+pub const MACHINE: Key = key!("machine", Timing, Form::Machine(true));
 
-pub const RUU: Row = Row("ruu", b"sd", Form::Number(4, 256, 32));
+pub const L1I: Key = key!("l1i", Caches, Form::Cache(6, 6, 4));
 
-pub const LSQ: Row = Row("lsq", b"sd", Form::Number(2, 128, 16));
+pub const L1D: Key = key!("l1d", Caches, Form::Cache(6, 6, 4));
 
-pub const PENALTY: Row = Row("penalty", b"sd", Form::Number(1, 64, 6));
+pub const L2: Key = key!("l2", Caches, Form::Cache(6, 9, 8));
 
-pub const ALUS: Row = Row("alus", b"sd", Form::Number(1, 8, 4));
+pub const ITLB: Key = key!("itlb", Caches, Form::Tlb(3, 4));
 
-pub const MULS: Row = Row("muls", b"sd", Form::Number(1, 8, 1));
+pub const DTLB: Key = key!("dtlb", Caches, Form::Tlb(4, 4));
 
-pub const DIVS: Row = Row("divs", b"sd", Form::Number(1, 8, 1));
+const USUAL_KIND: PredictorKind = PredictorKind {
+    scheme: Scheme::Gshare,
+    bits: 12,
+    target_log: 9,
+    depth: 8,
+};
 
-pub const LOADS: Row = Row("loads", b"sd", Form::Number(1, 8, 2));
+pub const PREDICTOR: Key = key!("predictor", Predictor, Form::Kind(USUAL_KIND));
 
-pub const STORES: Row = Row("stores", b"sd", Form::Number(1, 8, 1));
+pub const FETCH: Key = key!("fetch", Timing, Form::Number(1, 8, 4));
 
-pub const BRANCHES: Row = Row("branches", b"sd", Form::Number(1, 8, 1));
+pub const DISPATCH: Key = key!("dispatch", Timing, Form::Number(1, 8, 4));
 
-pub const MULLAT: Row = Row("mullat", b"sd", Form::Number(1, 16, 3));
+pub const ISSUE: Key = key!("issue", Timing, Form::Number(1, 8, 4));
 
-pub const DIVLAT: Row = Row("divlat", b"sd", Form::Number(1, 64, 20));
+pub const RETIRE: Key = key!("retire", Timing, Form::Number(1, 8, 4));
 
-pub const L1LAT: Row = Row("l1lat", b"sd", Form::Number(1, 16, 2));
+pub const QUEUE: Key = key!("queue", Timing, Form::Number(1, 32, 8));
 
-pub const L2LAT: Row = Row("l2lat", b"sd", Form::Number(1, 100, 10));
+pub const RUU: Key = key!("ruu", Timing, Form::Number(4, 256, 32));
 
-pub const MEMLAT: Row = Row("memlat", b"sd", Form::Number(1, 1000, 100));
+pub const LSQ: Key = key!("lsq", Timing, Form::Number(2, 128, 16));
 
-pub const TLBLAT: Row = Row("tlblat", b"sd", Form::Number(0, 200, 30));
+pub const PENALTY: Key = key!("penalty", Timing, Form::Number(1, 64, 6));
 
+pub const ALUS: Key = key!("alus", Timing, Form::Number(1, 8, 4));
+
+pub const MULS: Key = key!("muls", Timing, Form::Number(1, 8, 1));
+
+pub const DIVS: Key = key!("divs", Timing, Form::Number(1, 8, 1));
+
+pub const LOADS: Key = key!("loads", Timing, Form::Number(1, 8, 2));
+
+pub const STORES: Key = key!("stores", Timing, Form::Number(1, 8, 1));
+
+pub const BRANCHES: Key = key!("branches", Timing, Form::Number(1, 8, 1));
+
+pub const MULLAT: Key = key!("mullat", Timing, Form::Number(1, 16, 3));
+
+pub const DIVLAT: Key = key!("divlat", Timing, Form::Number(1, 64, 20));
+
+pub const L1LAT: Key = key!("l1lat", Timing, Form::Number(1, 16, 2));
+
+pub const L2LAT: Key = key!("l2lat", Timing, Form::Number(1, 100, 10));
+
+pub const MEMLAT: Key = key!("memlat", Timing, Form::Number(1, 1000, 100));
+
+pub const TLBLAT: Key = key!("tlblat", Timing, Form::Number(0, 200, 30));
 // The default is never read: `demo` without a size is at fault.
-pub const SIZE: Row = Row("size", b"d", Form::Number(1, 1_000_000, 1));
+pub const SIZE: Key = key!("size", Size, Form::Number(1, 1_000_000, 1));
 
+/// Every key.
 #[tactic(auto, unfolding(crate::specs::Keys::keys))]
-fn rows() -> &'static [Row]
+pub fn keys() -> &'static [Key]
     ensures { map key_of result.now ≡ keys }
 {
     &[
@@ -120,18 +153,30 @@ fn rows() -> &'static [Row]
     ]
 }
 
-fn form_among(rows: &[Row], letter: u8, name: &str) -> Option<Form>
-    ensures { result ≡ option_map (λ row. row.2) (find (λ row. is_key letter name.now (key_of row)) rows.now) }
+fn is_same(one: Group, other: Group) -> bool
+    ensures { result ≡ is_same one other }
 {
-    let row = rows
-        .iter()
-        .find(|row| row.0 == name && row.1.contains(&letter))?;
-    Some(row.2)
+    one == other
 }
 
-/// What the values of this key of the command with this letter are, where the command has it.
-pub fn form_of(letter: u8, name: &str) -> Option<Form>
-    ensures { result ≡ form_in letter name.now }
+fn stands_in(key: &Key, groups: &[Group]) -> bool
+    ensures { result ≡ list_any (λ g. is_same g key.now.group) groups.now }
 {
-    form_among(rows(), letter, name)
+    groups.iter().any(|&group| is_same(group, key.group))
+}
+
+fn form_among(keys: &[Key], groups: &[Group], name: &str) -> Option<Form>
+    ensures { result ≡ option_map (λ key. key.form) (find (λ key. is_key groups.now name.now (key_of key)) keys.now) }
+{
+    let key = keys
+        .iter()
+        .find(|key| key.name == name && stands_in(key, groups))?;
+    Some(key.form)
+}
+
+/// What the values of the key of this name are, where it stands in one of the groups.
+pub fn form_of(groups: &[Group], name: &str) -> Option<Form>
+    ensures { result ≡ form_in groups.now name.now }
+{
+    form_among(keys(), groups, name)
 }

@@ -5,9 +5,11 @@
 mod asked;
 mod command;
 mod configured;
+mod help;
 mod keys;
 mod line;
 mod number;
+mod parts;
 mod read;
 mod report;
 mod shapes;
@@ -17,6 +19,7 @@ mod values;
 mod words;
 
 pub use command::Command;
+pub use help::HELP;
 pub use read::{WordFault, WordKind, read_words};
 pub use report::report_text;
 pub use status::{DesignFault, Status};

@@ -43,7 +43,7 @@ impl Line {
     }
 
     /// Adds a number, as decimal digits.
-    #[tactic(auto, using(crate::proofs::Lengths::decimal_short))]
+    #[tactic(auto, using(crate::proofs::LineLemmas::decimal_short))]
     pub fn push_u64(&mut self, n: u64)
         requires { length self.old + 20 ≤ 64 }
         ensures text { self.new ≡ self.old ++ decimal n }
@@ -53,7 +53,7 @@ impl Line {
         self.push(buffer.format(n).as_bytes());
     }
 
-    #[tactic(auto, using(crate::proofs::Lengths::decimal_of_ten))]
+    #[tactic(auto, using(crate::proofs::LineLemmas::decimal_of_ten))]
     pub fn push_u32(&mut self, n: u32)
         requires { length self.old + 10 ≤ 64 }
         ensures text { self.new ≡ self.old ++ decimal n }
@@ -64,7 +64,7 @@ impl Line {
     }
 
     /// Adds the number of a fault.
-    #[tactic(auto, using(crate::proofs::Lengths::decimal_of_two))]
+    #[tactic(auto, using(crate::proofs::LineLemmas::decimal_of_two))]
     pub fn push_fault(&mut self, n: u8)
         requires room { length self.old + 2 ≤ 64 }
         requires short { n < 100 }

@@ -1,7 +1,7 @@
 ghost use Rattle.std.specs.Prelude.{◌≡◌, ◌≤◌, IfOk, IfSome};
 ghost use Rattle.std.specs.Char.{is_ascii_digit};
 ghost use Rattle.std.specs.List.{list_all};
-ghost use Rattle.smarts_text.specs.Numerals.{is_number, number_of, number_read, within};
+ghost use Rattle.smarts_text.specs.Number.{is_number, number_of, number_read, within};
 
 use crate::read::WordKind;
 
@@ -18,7 +18,7 @@ fn are_digits(text: &str) -> bool
     text.bytes().all(|b| b.is_ascii_digit())
 }
 
-#[tactic(auto, using(crate::proofs::Numerals::parses_number), unfolding(crate::specs::Numerals::number_of))]
+#[tactic(auto, using(crate::proofs::NumberLemmas::parses_number), unfolding(crate::specs::Number::number_of))]
 pub fn number(text: &str) -> Option<u64>
     ensures { result ≡ number_of text.now }
 {

@@ -1,15 +1,14 @@
-ghost use Rattle.std.specs.Prelude.{◌≡◌, ◌<◌, ◌≤◌, ◌^◌, None, Some, Err, Option, map, length, string_bytes, IfOk};
+ghost use Rattle.std.specs.Prelude.{◌≡◌, ◌<◌, ◌≤◌, ◌^◌, None, Err, map, length, string_bytes, IfOk};
 ghost use Rattle.smarts_base.specs.Outcome.{Answers};
 ghost use Rattle.smarts_text.specs.Asked.{number_in};
-ghost use Rattle.smarts_text.specs.Checks.{IsSound};
+ghost use Rattle.smarts_text.specs.Command.{IsSound, required_key};
 ghost use Rattle.smarts_text.specs.Keys as key_specs;
-ghost use Rattle.smarts_text.specs.Meaning.{command_in, is_missing, job_of, late_fault, letter_of, meaning, refused};
+ghost use Rattle.smarts_text.specs.Read.{is_missing, late_fault, meaning, refused};
 
-use crate::asked::{design, number, test};
+use crate::asked::number;
 use crate::command::Command;
-use crate::configured::config;
 use crate::keys;
-use crate::words::{fault_among, given};
+use crate::words::{fault_among, value_of};
 use smarts_base::Refusal;
 
 /// What is wrong with a command line.
@@ -43,48 +42,23 @@ pub enum WordKind {
     OffsetNotBelowEvery = 9,
 }
 
-// The commands.
-#[derive(Clone, Copy, Debug, PartialEq, Eq)]
-enum Job {
-    Sample,
-    Run,
-    Demo,
-}
-
-fn job_named(name: &str) -> Option<Job>
-    ensures { result ≡ job_of name.now }
+// Whether the words lack a key that has to be given.
+fn is_missing(command: &Command, words: &[String]) -> bool
+    ensures { result ≡ is_missing (required_key command.now) (map string_bytes words.now) }
 {
-    match name {
-        "sample" => Some(Job::Sample),
-        "run" => Some(Job::Run),
-        "demo" => Some(Job::Demo),
-        _ => None,
+    match command.required_key() {
+        Some(key) => value_of(key.name, words).is_none(),
+        None => false,
     }
 }
 
-fn letter(job: Job) -> u8
-    ensures { result ≡ letter_of job }
-{
-    match job {
-        Job::Sample => b's',
-        Job::Run => b'r',
-        Job::Demo => b'd',
-    }
-}
-
-fn is_missing(job: Job, words: &[String]) -> bool
-    ensures { result ≡ is_missing job (map string_bytes words.now) }
-{
-    job == Job::Demo && given(keys::SIZE.0, words).is_none()
-}
-
-#[tactic(auto, unfolding(crate::specs::Meaning::late_fault))]
-fn late_fault(job: Job, words: &[String]) -> Option<WordKind>
-    ensures value { result ≡ late_fault job (map string_bytes words.now) }
+#[tactic(auto, unfolding(crate::specs::Read::late_fault))]
+fn late_fault(command: &Command, words: &[String]) -> Option<WordKind>
+    ensures value { result ≡ late_fault command.now (map string_bytes words.now) }
     ensures lsq { result ≡ None → number_in (map string_bytes words.now) key_specs.lsq_key ≤ number_in (map string_bytes words.now) key_specs.ruu_key }
     ensures offset { result ≡ None → number_in (map string_bytes words.now) key_specs.offset_key < number_in (map string_bytes words.now) key_specs.every_key }
 {
-    if is_missing(job, words) {
+    if is_missing(command, words) {
         return Some(WordKind::Missing);
     }
     if number(words, &keys::RUU) < number(words, &keys::LSQ) {
@@ -94,31 +68,6 @@ fn late_fault(job: Job, words: &[String]) -> Option<WordKind>
         return Some(WordKind::OffsetNotBelowEvery);
     }
     None
-}
-
-#[tactic(auto, unfolding(crate::specs::Meaning::command_in, crate::specs::Asked::design_in))]
-fn command(job: Job, words: &[String]) -> Command
-    requires lsq { number_in (map string_bytes words.now) key_specs.lsq_key ≤ number_in (map string_bytes words.now) key_specs.ruu_key }
-    requires offset { number_in (map string_bytes words.now) key_specs.offset_key < number_in (map string_bytes words.now) key_specs.every_key }
-    ensures value { result ≡ command_in job (map string_bytes words.now) }
-    ensures sound { IsSound result }
-{
-    match job {
-        Job::Sample => Command::Sample {
-            design: design(words),
-            config: config(words),
-            test: test(words),
-        },
-        Job::Demo => Command::Demo {
-            size: number(words, &keys::SIZE) as u32,
-            design: design(words),
-            config: config(words),
-            test: test(words),
-        },
-        Job::Run => Command::Run {
-            budget: number(words, &keys::BUDGET),
-        },
-    }
 }
 
 fn refuse(kind: WordKind, place: usize) -> Result<Command, Refusal<WordFault>>
@@ -133,7 +82,7 @@ fn refuse(kind: WordKind, place: usize) -> Result<Command, Refusal<WordFault>>
 
 /// What the words ask for, the program's name not among them. No memory is taken: `NoMemory` stands
 /// for a place that no `u32` can hold.
-#[tactic(auto, unfolding(crate::specs::Meaning::meaning))]
+#[tactic(auto, unfolding(crate::specs::Read::meaning))]
 pub fn read_words(words: &[String]) -> Result<Command, Refusal<WordFault>>
     ensures answer { Answers (λ command. command) result (meaning (map string_bytes words.now)) }
     ensures memory { result ≡ Err Refusal.NoMemory → 2 ^ 32 ≤ length words.now }
@@ -142,14 +91,14 @@ pub fn read_words(words: &[String]) -> Result<Command, Refusal<WordFault>>
     let Some((first, words)) = words.split_first() else {
         return refuse(WordKind::NoCommand, 0);
     };
-    let Some(job) = job_named(first.as_str()) else {
+    let Some(command) = Command::asked_by(first.as_str(), words) else {
         return refuse(WordKind::UnknownCommand, 0);
     };
-    if let Some((place, kind)) = fault_among(letter(job), words) {
+    if let Some((place, kind)) = fault_among(command.groups(), words) {
         return refuse(kind, place + 1);
     }
-    if let Some(kind) = late_fault(job, words) {
+    if let Some(kind) = late_fault(&command, words) {
         return refuse(kind, words.len() + 1);
     }
-    Ok(command(job, words))
+    Ok(command)
 }

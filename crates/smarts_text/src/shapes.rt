@@ -1,11 +1,10 @@
-ghost use Rattle.std.specs.Prelude.{◌≡◌, ◌≤◌, IfOk, IfSome, option_copied};
+ghost use Rattle.std.specs.Prelude.{◌≡◌, ◌≤◌, IfOk, IfSome};
 ghost use Rattle.hierarchy.specs.Config.{IsCacheShape, IsTlbShape};
 ghost use Rattle.predictor.specs.Kind.{IsKind};
-ghost use Rattle.smarts_text.specs.Numerals.{parts_round};
-ghost use Rattle.smarts_text.specs.Rows.{parts_copied};
 ghost use Rattle.smarts_text.specs.Shapes.{cache_read, cache_shape, kind_read, kind_within, line_log_of, scheme_and_three, scheme_of, sets_log_of, three_of, tlb_read, tlb_shape, two_of};
 
 use crate::number::{number, within};
+use crate::parts::parts;
 use crate::read::WordKind;
 use lru_plain::Geometry;
 use predictor::{PredictorKind, Scheme};
@@ -18,19 +17,11 @@ pub struct Three {
     pub third: u64,
 }
 
-// What stands left and right of the first colon.
-#[tactic(auto, using(crate::proofs::Numerals::parts_found))]
-fn parts(text: &str) -> Option<(&str, &str)>
-    ensures { parts_copied result ≡ parts_round 58 text.now }
-{
-    text.split_once(':')
-}
-
 #[tactic(auto, unfolding(crate::specs::Shapes::two_of))]
 fn two_in(text: &str) -> Option<(u64, u64)>
     ensures { result ≡ two_of text.now }
 {
-    let (first, second) = parts(text)?;
+    let (first, second) = parts(text, ':')?;
     Some((number(first)?, number(second)?))
 }
 
@@ -38,7 +29,7 @@ fn two_in(text: &str) -> Option<(u64, u64)>
 fn three_in(text: &str) -> Option<Three>
     ensures { result ≡ three_of text.now }
 {
-    let (first, others) = parts(text)?;
+    let (first, others) = parts(text, ':')?;
     let first = number(first)?;
     let (second, third) = two_in(others)?;
     Some(Three {
@@ -141,7 +132,7 @@ fn scheme(name: &str) -> Option<Scheme>
 fn scheme_and_three(text: &str) -> Option<(Scheme, Three)>
     ensures { result ≡ scheme_and_three text.now }
 {
-    let (name, numbers) = parts(text)?;
+    let (name, numbers) = parts(text, ':')?;
     let scheme = scheme(name)?;
     Some((scheme, three_in(numbers)?))
 }

@@ -35,7 +35,7 @@ pub enum Status {
 
 impl Status {
     ghost use Rattle.std.specs.Prelude.{◌≡◌};
-    ghost use Rattle.smarts_text.specs.Numbers.{status_number};
+    ghost use Rattle.smarts_text.specs.Status.{status_number};
 
     /// The number that the process ends with.
     pub fn number(&self) -> u8

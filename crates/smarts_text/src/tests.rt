@@ -1,3 +1,4 @@
+mod listed;
 mod processors;
 
 use super::*;

@@ -20,7 +20,7 @@ use Rattle.rv_exec.specs.Machine.{State}
 use Rattle.sample_design.specs.declared.design.Design.{Design}
 use Rattle.sample_design.specs.Order.{order_of}
 use Rattle.sample_design.specs.Units.{sampled_unit}
-use Rattle.turbosmarts.specs.Units.{whole_answer, unit_answers}
+use Rattle.unit_answers.specs.Answers.{whole_answer, unit_answers}
 use Rattle.turbosmarts.specs.Visits.{visited, ArePlaces}
 
 -- the front is that of the first so many answers, and goes on

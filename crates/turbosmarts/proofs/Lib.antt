@@ -1,10 +1,10 @@
-pub mod Answerings
-pub mod Endings
+pub mod EndsLemmas
 pub mod Folds
 pub mod Latest
 pub mod Measures
 pub mod PartSteps
+pub mod SampleLemmas
 pub mod Summed
-pub mod Tellings
+pub mod TellsLemmas
 pub mod Whiles
 pub mod Windows

@@ -11,7 +11,7 @@ use Rattle.rv_exec.specs.Machine.{State}
 use Rattle.sample_design.specs.declared.design.Design.{Design}
 use Rattle.sample_design.specs.Units.{sampled_unit}
 use Rattle.turbosmarts.specs.Parts.{IsMeasuring, AreMeasured, units_ended}
-use Rattle.turbosmarts.specs.Units.{whole_answer}
+use Rattle.unit_answers.specs.Answers.{whole_answer}
 
 pub measuring_start :
     (config : Config) (start : State) (design : Design) → design.offset ≤ 999_999

@@ -18,7 +18,7 @@ use Rattle.sample_design.specs.Units.{window_of}
 use Rattle.turbosmarts.specs.Parts.{HasShown}
 use Rattle.turbosmarts.specs.Shown.{events_to, marks_of, window_cycles, IsAtEnd, IsTimeable, CanTell}
 use Rattle.ruu_timing.specs.Machine.{cycles_of}
-use Rattle.turbosmarts.specs.Units.{answer_by, whole_answer}
+use Rattle.unit_answers.specs.Answers.{answer_by, whole_answer}
 
 -- the marks of a run that can be done are its trace
 traced :

@@ -6,7 +6,7 @@ use Rattle.smarts_text.specs.declared.status.Status.{Status}
 use Rattle.smarts_text.specs.declared.status.Status.TheVariants as statuses
 use Rattle.smarts_text.specs.Texts.{exit_line, fault_line}
 use Rattle.turbosmarts.specs.declared.ending.Exit.{Exit}
-use Rattle.turbosmarts.specs.Answer.{Answer, taken_in}
+use Rattle.turbosmarts.specs.Answer.{Answer}
 
 -- the end follows from the words and the input, and from nothing outside
 abbrev pub IsDetermined : Status → Type 0
@@ -14,6 +14,12 @@ IsDetermined statuses.ReadFault = ⊥
 IsDetermined (statuses.WriteFault taken) = ⊥
 IsDetermined statuses.NoMemory = ⊥
 IsDetermined _ = Unit {0}
+
+-- there was an answer, even if a write of it failed: the end is no read fault and no want of memory
+abbrev pub IsAnswered : Status → Type 0
+IsAnswered statuses.ReadFault = ⊥
+IsAnswered statuses.NoMemory = ⊥
+IsAnswered _ = Unit {0}
 
 abbrev pub IsBadWords : Status → Type 0
 IsBadWords (statuses.BadWords fault) = Unit {0}
@@ -23,17 +29,16 @@ abbrev pub IsFault : Status → Type 0
 IsFault statuses.Done = ⊥
 IsFault _ = Unit {0}
 
--- an end at which the whole input was read, up to one byte past its limit
-abbrev pub IsAllRead : Status → Type 0
-IsAllRead (statuses.BadWords fault) = ⊥
-IsAllRead statuses.ReadFault = ⊥
-IsAllRead statuses.NoMemory = ⊥
-IsAllRead _ = Unit {0}
+-- a fault that came before anything was written
+abbrev pub IsUnwritten : Status → Type 0
+IsUnwritten statuses.Done = ⊥
+IsUnwritten (statuses.WriteFault taken) = ⊥
+IsUnwritten _ = Unit {0}
 
 -- what is told of an end: how the program that was run exited, or the fault
-abbrev pub told_of : Status → Option Exit → List ℕ
-told_of status (Some exit) = exit_line exit.code exit.length
-told_of status None = fault_line status
+abbrev pub end_line : Status → Option Exit → List ℕ
+end_line status (Some exit) = exit_line exit.code exit.length
+end_line status None = fault_line status
 
 -- what a source or a sink tells, and how often it has failed, before a call and after it
 pub record Change : Type 0 where
@@ -42,41 +47,31 @@ pub record Change : Type 0 where
   pub faults_before : ℕ
   pub faults_after : ℕ
 
--- The answer was given to the sink, unless that failed or memory wasn't found; then the end says how far it
--- came.
-pub record GivesAnswer (answer : Answer) (sink : Change) (result : Status) (told : List ℕ) : Type 0 where
+-- The answer was given to the sink. Where the sink failed it has a front of the bytes.
+pub record GivesAnswer (answer : Answer) (sink : Change) (result : Status) : Type 0 where
   pub status : IsDetermined result → result ≡ answer.status
   pub written : IsDetermined result → Takes sink.before answer.bytes sink.after
-  pub no_read : result ≡ statuses.ReadFault → ⊥
-  pub write_cause : (taken : ℕ) → result ≡ statuses.WriteFault taken → Rose sink.faults_before sink.faults_after
   pub write_done : (taken : ℕ) → result ≡ statuses.WriteFault taken → answer.status ≡ statuses.Done
   pub write_front : (taken : ℕ) → result ≡ statuses.WriteFault taken → Takes sink.before (take taken answer.bytes) sink.after
   pub write_short : (taken : ℕ) → result ≡ statuses.WriteFault taken → taken < length answer.bytes
-  pub no_memory : result ≡ statuses.NoMemory → sink.after ≡ sink.before
-  pub told_fault : IsFault result → told ≡ fault_line result
-  pub told_done : result ≡ statuses.Done → told ≡ answer.lines
 
--- The call ended as the answer to the input says, unless it failed outside or found no memory; then it says
--- which failed, and how far it came. Where the command reads no input, the source is as it was.
-pub record EndsAs (expected : List ℕ → Answer) (reads : Type 0) (source sink : Change) (result : Status) (told : List ℕ) : Type 0 where
-  pub status : IsDetermined result → IfSome source.before (λ input. result ≡ (expected (taken_in input)).status)
-  pub written : IsDetermined result → IfSome source.before (λ input.
-      Takes sink.before (expected (taken_in input)).bytes sink.after)
-  pub read_reads : result ≡ statuses.ReadFault → reads
+-- There is an input whose answer was given: what the source told, where it told it. Of this input the call read
+-- what the answer reads, and where it is done, it tells the answer's lines.
+pub record HasAnswered (expected : List ℕ → Answer) (source sink : Change) (tells : List ℕ → Type 0) (result : Status) : Type 0 where
+  pub input : List ℕ
+  pub told : IfSome source.before (λ bytes. input ≡ bytes)
+  pub read : Gives source.before (expected input).read source.after
+  pub gives : GivesAnswer (expected input) sink result
+  pub lines : result ≡ statuses.Done → tells (expected input).lines
+
+-- How a call ends: with an answer, unless the source failed or memory wasn't found. Where the words ask for no
+-- input, the source is as it was.
+pub record EndsAs (expected : List ℕ → Answer) (asks : Type 0) (source sink : Change) (result : Status) (told : List ℕ) : Type 0 where
+  pub answered : IsAnswered result → HasAnswered expected source sink (λ lines. told ≡ lines) result
+  pub read_asked : result ≡ statuses.ReadFault → asks
   pub read_cause : result ≡ statuses.ReadFault → Rose source.faults_before source.faults_after
-  pub read_nothing : result ≡ statuses.ReadFault → sink.after ≡ sink.before
   pub write_cause : (taken : ℕ) → result ≡ statuses.WriteFault taken → Rose sink.faults_before sink.faults_after
-  pub write_done : (taken : ℕ) → result ≡ statuses.WriteFault taken → IfSome source.before (λ input.
-      (expected (taken_in input)).status ≡ statuses.Done)
-  pub write_front : (taken : ℕ) → result ≡ statuses.WriteFault taken → IfSome source.before (λ input.
-      Takes sink.before (take taken (expected (taken_in input)).bytes) sink.after)
-  pub write_short : (taken : ℕ) → result ≡ statuses.WriteFault taken → IfSome source.before (λ input.
-      taken < length (expected (taken_in input)).bytes)
-  pub no_memory : result ≡ statuses.NoMemory → sink.after ≡ sink.before
-  pub all_read : reads → IsAllRead result → IfSome source.before (λ input.
-      Gives source.before (taken_in input) source.after)
-  pub unread : (reads → ⊥) → source.after ≡ source.before
-  pub unread_count : (reads → ⊥) → source.faults_after ≡ source.faults_before
+  pub unwritten : IsUnwritten result → sink.after ≡ sink.before
+  pub unread : (asks → ⊥) → source.after ≡ source.before
+  pub unread_count : (asks → ⊥) → source.faults_after ≡ source.faults_before
   pub told_fault : IsFault result → told ≡ fault_line result
-  pub told_done : result ≡ statuses.Done → IfSome source.before (λ input.
-      told ≡ (expected (taken_in input)).lines)

@@ -1,10 +1,10 @@
 pub mod Answer
+pub mod commands
 pub mod Ends
 pub mod Faults
 pub mod Parts
 pub mod Processors
 pub mod Shown
+pub mod Stages
 pub mod Tells
-pub mod Units
 pub mod Visits
-pub mod Writtens

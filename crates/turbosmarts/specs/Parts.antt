@@ -13,7 +13,7 @@ use Rattle.sample_design.specs.Units.{sampled_unit, EndsWithin}
 use Rattle.turbosmarts.specs.declared.measuring.Part.{Part}
 use Rattle.turbosmarts.specs.declared.measuring.PartEnd.{PartEnd}
 use Rattle.turbosmarts.specs.declared.measuring.PartEnd.TheVariants as ends
-use Rattle.turbosmarts.specs.Units.{whole_answer}
+use Rattle.unit_answers.specs.Answers.{whole_answer}
 
 -- so many instructions of a run can be done, and were shown
 pub record HasShown (seen : ℕ → Type 0) (start : State) (n : ℕ) : Type 0 where

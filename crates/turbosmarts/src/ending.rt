@@ -1,5 +1,5 @@
 ghost use Rattle.std.specs.Prelude.{◌≡◌, ◌≤◌, take};
-ghost use Rattle.turbosmarts.specs.Ends.{told_of};
+ghost use Rattle.turbosmarts.specs.Ends.{end_line};
 
 use smarts_text::{Status, exit_text, fault_text};
 
@@ -31,7 +31,7 @@ impl End {
     /// Writes what is told of the end to the front of `out`, and answers its length.
     pub fn text(&self, out: &mut [u8; 64]) -> usize
         ensures length { result ≤ 64 }
-        ensures text { take result out.new ≡ told_of self.now.status self.now.exit }
+        ensures text { take result out.new ≡ end_line self.now.status self.now.exit }
     {
         match &self.exit {
             Some(exit) => exit_text(exit.code, exit.length, out),

@@ -2,29 +2,33 @@
 //! answer to standard output, and tells a person about it on standard error.
 #![tactic(auto)]
 
-mod answering;
-mod command;
+mod commands;
 mod ending;
 mod fault;
 mod folding;
-mod help;
 mod measuring;
 mod meter;
 mod out_of_order;
 mod processor;
 mod scalar;
+mod serving;
+mod stages;
 mod telling;
 #[cfg(test)]
 mod tests;
 mod top;
+mod written;
 
 use smarts_io::{ErrorSink, InputSource, OutputSink, write_all};
-use smarts_text::{Status, WordFault, WordKind};
+use smarts_text::{HELP, Status, WordFault, WordKind};
 use std::process::ExitCode;
 use std::rt::Env;
 use std::{env, io};
 use telling::tell;
 use top::turbosmarts;
+
+/// What `--version` prints.
+const VERSION: &str = "turbosmarts 0.1.0\n";
 
 fn main(rt: HostRuntime) -> ExitCode {
     let mut sink = OutputSink::new(rt.stdout());
@@ -56,8 +60,8 @@ fn text_for(words: &[String]) -> Option<&'static str> {
         return None;
     };
     match word.as_str() {
-        "--help" => Some(help::HELP),
-        "--version" => Some(help::VERSION),
+        "--help" => Some(HELP),
+        "--version" => Some(VERSION),
         _ => None,
     }
 }

@@ -1,14 +1,14 @@
 ghost use Rattle.std.specs.Prelude.{◌≡◌, ◌<◌, ℕ, List, length, map, string_bytes, take, IfErr, IfSome, IsErr};
 ghost use Rattle.smarts_io.specs.Bytes.{Gives, Takes};
 ghost use Rattle.smarts_io.specs.Causes.{Rose};
-ghost use Rattle.smarts_text.specs.Meaning.{meaning};
+ghost use Rattle.smarts_text.specs.Read.{meaning};
 ghost use Rattle.smarts_text.specs.Texts.{fault_line};
-ghost use Rattle.turbosmarts.specs.Answer.{AsksForInput, answer, taken_in};
-ghost use Rattle.turbosmarts.specs.Ends.{EndsAs, IsAllRead, IsBadWords, IsDetermined, IsFault, told_of};
+ghost use Rattle.turbosmarts.specs.Answer.{AsksForInput, answer};
+ghost use Rattle.turbosmarts.specs.Ends.{EndsAs, HasAnswered, IsAnswered, IsBadWords, IsDetermined, IsFault, IsUnwritten, end_line};
 ghost use Rattle.turbosmarts.specs.Tells.{TakesFront};
 
-use crate::command::do_command;
 use crate::ending::End;
+use crate::serving::serve;
 use crate::telling::tell;
 use smarts_base::Refusal;
 use smarts_io::{Sink, Source};
@@ -31,38 +31,54 @@ pub fn turbosmarts<S: Source, K: Sink, F: Sink>(
 ) -> Status
     // An end that isn't due to the source, the sink or memory is the answer's, and so is what was written.
     ensures status { IsDetermined result → IfSome (S.rest source.old) (λ input.
-        result ≡ (answer (map string_bytes words.now) (taken_in input)).status) }
+        result ≡ (answer (map string_bytes words.now) input).status) }
     ensures written { IsDetermined result → IfSome (S.rest source.old) (λ input.
-        Takes (K.taken sink.old) (answer (map string_bytes words.now) (taken_in input)).bytes (K.taken sink.new)) }
+        Takes (K.taken sink.old) (answer (map string_bytes words.now) input).bytes (K.taken sink.new)) }
     ensures words { IfErr (meaning (map string_bytes words.now)) (λ fault.
         (result ≡ Status.NoMemory → ⊥) → result ≡ Status.BadWords fault) }
     ensures words_only { IsBadWords result → IsErr (meaning (map string_bytes words.now)) }
 
+    // Whether the source tells its bytes or not, there is an input that was answered, and where the source tells
+    // it, it is this one.
+    ensures answered { IsAnswered result → HasAnswered (answer (map string_bytes words.now))
+        (record {
+          before = S.rest source.old;
+          after = S.rest source.new;
+          faults_before = S.faults source.old;
+          faults_after = S.faults source.new;
+        })
+        (record {
+          before = K.taken sink.old;
+          after = K.taken sink.new;
+          faults_before = K.faults sink.old;
+          faults_after = K.faults sink.new;
+        })
+        (λ text. TakesFront text (F.taken lines.old) (F.taken lines.new) (F.faults lines.old) (F.faults lines.new))
+        result }
+
+    // A fault but that of a write wrote nothing.
+    ensures unwritten { IsUnwritten result → K.taken sink.new ≡ K.taken sink.old }
+
     // A read fault comes only where the words ask for a command that reads the input, and the source failed in
     // this call.
-    ensures read_accepted { result ≡ Status.ReadFault → AsksForInput (meaning (map string_bytes words.now)) }
+    ensures read_asked { result ≡ Status.ReadFault → AsksForInput (meaning (map string_bytes words.now)) }
     ensures read_cause { result ≡ Status.ReadFault → Rose (S.faults source.old) (S.faults source.new) }
-    ensures read_nothing { result ≡ Status.ReadFault → K.taken sink.new ≡ K.taken sink.old }
 
     // A write fault comes only where there was an answer to write and the sink failed in this call. The sink
     // then has a front of the answer.
     ensures write_cause { (taken : ℕ) → result ≡ Status.WriteFault taken →
         Rose (K.faults sink.old) (K.faults sink.new) }
     ensures write_done { (taken : ℕ) → result ≡ Status.WriteFault taken → IfSome (S.rest source.old) (λ input.
-        (answer (map string_bytes words.now) (taken_in input)).status ≡ Status.Done) }
+        (answer (map string_bytes words.now) input).status ≡ Status.Done) }
     ensures write_front { (taken : ℕ) → result ≡ Status.WriteFault taken → IfSome (S.rest source.old) (λ input.
-        Takes (K.taken sink.old) (take taken (answer (map string_bytes words.now) (taken_in input)).bytes)
+        Takes (K.taken sink.old) (take taken (answer (map string_bytes words.now) input).bytes)
         (K.taken sink.new)) }
     ensures write_short { (taken : ℕ) → result ≡ Status.WriteFault taken → IfSome (S.rest source.old) (λ input.
-        taken < length (answer (map string_bytes words.now) (taken_in input)).bytes) }
+        taken < length (answer (map string_bytes words.now) input).bytes) }
 
-    // For want of memory nothing was written.
-    ensures no_memory { result ≡ Status.NoMemory → K.taken sink.new ≡ K.taken sink.old }
-
-    // The whole input was read, up to one byte past the limit, or none of it: for refused words, and where the
-    // command makes its own.
-    ensures all_read { AsksForInput (meaning (map string_bytes words.now)) → IsAllRead result → IfSome (S.rest source.old) (λ input.
-        Gives (S.rest source.old) (taken_in input) (S.rest source.new)) }
+    // Of the input was read what the answer reads. Where the words ask for none, the source is as it was.
+    ensures read { IsAnswered result → IfSome (S.rest source.old) (λ input.
+        Gives (S.rest source.old) (answer (map string_bytes words.now) input).read (S.rest source.new)) }
     ensures unread { (AsksForInput (meaning (map string_bytes words.now)) → ⊥) → S.rest source.new ≡ S.rest source.old }
     ensures unread_count { (AsksForInput (meaning (map string_bytes words.now)) → ⊥) → S.faults source.new ≡ S.faults source.old }
 
@@ -71,7 +87,7 @@ pub fn turbosmarts<S: Source, K: Sink, F: Sink>(
     ensures lines_fault { IsFault result → TakesFront (fault_line result)
         (F.taken lines.old) (F.taken lines.new) (F.faults lines.old) (F.faults lines.new) }
     ensures lines_done { result ≡ Status.Done → IfSome (S.rest source.old) (λ input.
-        TakesFront (answer (map string_bytes words.now) (taken_in input)).lines
+        TakesFront (answer (map string_bytes words.now) input).lines
         (F.taken lines.old) (F.taken lines.new) (F.faults lines.old) (F.faults lines.new)) }
 {
     let end = end_of(alloc, words, source, sink);
@@ -95,13 +111,13 @@ fn end_of<S: Source, K: Sink>(alloc: Global, words: &[String], source: &mut S, s
           faults_before = K.faults sink.old;
           faults_after = K.faults sink.new;
         })
-        result.status (told_of result.status result.exit) }
+        result.status (end_line result.status result.exit) }
     ensures words { IfErr (meaning (map string_bytes words.now)) (λ fault.
         (result.status ≡ Status.NoMemory → ⊥) → result.status ≡ Status.BadWords fault) }
     ensures words_only { IsBadWords result.status → IsErr (meaning (map string_bytes words.now)) }
 {
     match read_words(words) {
-        Ok(command) => do_command(alloc, &command, source, sink),
+        Ok(command) => serve(alloc, &command, source, sink),
         Err(Refusal::Fault(fault)) => End::of(Status::BadWords(fault)),
         Err(Refusal::NoMemory) => End::of(Status::NoMemory),
     }

@@ -1,11 +1,11 @@
 use Rattle.std.proofs.Common.{◌≡◌, refl, ap, ◌∙◌}
 use Rattle.smarts_text.specs.declared.status.Status.TheVariants.{BadWords}
-use Rattle.turbosmarts.proofs.Endings.{ends_accepted, ends_with_fault}
+use Rattle.turbosmarts.proofs.EndsLemmas.{ends_accepted, ends_with_fault}
 use Rattle.turbosmarts.proofs.top.end_of.Goals as goal
 
 pub returns-in-Ok-clause-ends : goal.returns-in-Ok-clause-ends
 returns-in-Ok-clause-ends g c =
-    ends_accepted _ _ _ _ _ _ c.in-Ok.ensures.answer c.do_command.ensures.ends
+    ends_accepted _ _ _ _ _ _ c.in-Ok.ensures.answer c.serve.ensures.ends
 
 pub returns-in-Err-Fault-clause-ends : goal.returns-in-Err-Fault-clause-ends
 returns-in-Err-Fault-clause-ends g c =

@@ -1,0 +1,37 @@
+-- What stands left and right of a byte.
+use Rattle.std.proofs.Common.{◌≡◌, ◌<◌, ℕ, List, [], ◌∷◌, ◌++◌, false, true, length, get_or, Option, Some, None, refl, sym, arith, Bor, eqb, ◌≢◌, suc}
+use Rattle.std.proofs.lemmas.Bool.{eq-eqb, ne_eqb}
+use Rattle.std.proofs.lemmas.Str.Pattern.{split_parts, IsSplitOnceResult}
+use Rattle.smarts_text.specs.Parts.{parts_copied, parts_round}
+
+-- a text without the byte has no parts
+no_parts :
+    (c : ℕ) (bs : List ℕ) → ((i : ℕ) → i < length bs → get_or bs i 0 ≢ c) → parts_round c bs ≡ None
+unfolding parts_round
+no_parts c [] lacks = refl
+no_parts c (b ∷ bs) lacks =
+    let here : eqb b c ≡ false = ne_eqb b c (lacks 0 (omega arith)) in
+    let rest : parts_round c bs ≡ None =
+    no_parts c bs (λ i h. lacks (suc i) (omega arith)) in
+    rw (here, rest) refl
+
+-- the parts of a text are those round the first byte c
+parts_here :
+    (c : ℕ) (left right : List ℕ) → ((i : ℕ) → i < length left → get_or left i 0 ≢ c)
+    → parts_round c (left ++ c ∷ right) ≡ Some (left, right)
+unfolding parts_round
+parts_here c [] right lacks = let here : eqb c c ≡ true = eq-eqb c c refl in rw here refl
+parts_here c (b ∷ left) right lacks =
+    let here : eqb b c ≡ false = ne_eqb b c (lacks 0 (omega arith)) in
+    let rest : parts_round c (left ++ c ∷ right) ≡ Some (left, right) =
+    parts_here c left right (λ i h. lacks (suc i) (omega arith)) in
+    rw (here, rest) refl
+
+-- a split at a byte gives the parts round the first one
+pub parts_found :
+    (c : ℕ) (bs : List ℕ) (r : Option (Bor (List ℕ) × Bor (List ℕ)))
+    → IsSplitOnceResult c bs r → c < 128 → parts_copied r ≡ parts_round c bs
+parts_found c bs None split small = sym (no_parts c bs (split_parts c bs None split small))
+parts_found c bs (Some x) split small =
+    let parts = split_parts c bs (Some x) split small in
+    rw parts.0 (sym (parts_here c x.0.now x.1.now parts.1))

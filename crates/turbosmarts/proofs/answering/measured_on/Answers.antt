@@ -1,8 +1,0 @@
-use Rattle.turbosmarts.proofs.answering.measured_on.Goals as goal
-
-pub returns-in_ok-processor-clause-units : goal.returns-in_ok-processor-clause-units
-returns-in_ok-processor-clause-units c =
-    rw c.in_ok-processor.ensures.config at c.measure.ensures.units
-
-pub returns-else-config-clause-units : goal.returns-else-config-clause-units
-returns-else-config-clause-units c = rw c.new-processor.ensures.config at c.measure-else-config.ensures.units
