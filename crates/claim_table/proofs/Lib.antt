@@ -1,1 +1,3 @@
-
+pub mod ViewLemmas
+pub mod DrawnLemmas
+pub mod StepLemmas

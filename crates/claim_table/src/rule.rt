@@ -19,12 +19,11 @@ impl Listed for Brand {
     ghost lists = { [] };
 }
 
-/// What a board is told when it is made: the place of its answers in the list of lists, how many they
-/// are, and the front that the fold goes on from.
+/// What a board is told when it is made: the place of its answers in the list of lists, and the front
+/// that the fold goes on from.
 #[derive(Drop)]
 pub struct Key {
     pub which: u32,
-    pub size: u32,
     pub start: Front,
 }
 

@@ -256,7 +256,7 @@ reported_stop :
 reported_stop answers j seat core None = refl
 reported_stop answers j seat core (Some k) = refl
 
-told_stop :
+pub told_stop :
     (start : Front) (answers : List Answer) (core : Core) → IsCore start answers core → core.stop ≢ 0
     → (core.stop ≡ count_before_end start answers + 1) × (is_going core.front.ending ≡ false)
 told_stop start answers core is some = by is.stop
