@@ -1,3 +1,4 @@
 pub mod ViewLemmas
 pub mod DrawnLemmas
 pub mod StepLemmas
+pub mod LockLemmas

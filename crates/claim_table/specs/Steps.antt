@@ -73,7 +73,7 @@ pub record Tried (lists : List (List Answer)) (me : Holding) (n : ℕ) (after : 
   pub busy : n % 2 ≡ 1 → after ≡ (refused_view n me.0, me.1)
   pub alone : n % 2 ≡ 1 → IsAlone me.0 → ⊥
   pub got : n % 2 ≡ 0 → after ≡ (holding_view n me.0, (0, Some (front_at lists me.0 (n / 2))) ∷ me.1)
-  pub few : n % 2 ≡ 0 → n / 2 ≤ length (answers_of lists me.0)
+
   pub drawn : n % 2 ≡ 0 → n / 2 ≤ length (answers_of lists me.0)
       × (IsAlone me.0 → n / 2 ≤ next_number me.0.seat.last)
   pub batch : IsBatch me.0.start (answers_of lists me.0)

@@ -19,7 +19,7 @@ use Rattle.ordered_fold.proofs.CellLemmas.{answer_of-code}
 use Rattle.ordered_fold.proofs.MachineLemmas.{IsIdle, live_within, every_seat, some_seat, this_seat, had_before, still_one, only_one, done_rises}
 
 -- a holder is live
-holder_lives : (seat : Seat) → (seat.live ≡ false → seat.holder ≡ false) → seat.holder ≡ true → seat.live ≡ true
+pub holder_lives : (seat : Seat) → (seat.live ≡ false → seat.holder ≡ false) → seat.holder ≡ true → seat.live ≡ true
 holder_lives seat dead holds = by (cases_Bool seat.live)
   where
     by : (seat.live ≡ true) ⊎ (seat.live ≡ false) → seat.live ≡ true
