@@ -2,3 +2,4 @@ pub mod ViewLemmas
 pub mod DrawnLemmas
 pub mod StepLemmas
 pub mod LockLemmas
+pub mod HolderLemmas

@@ -50,7 +50,7 @@ pub prefix_at :
 prefix_at lists v m batch within = prefix_of v.start (answers_of lists v) m batch within
 
 -- how many answers the front of a core has
-core_count :
+pub core_count :
     (start : Front) (answers : List Answer) (core : Core) → IsBatch start answers
     → IsCore start answers core
     → pushed_number core.front ≡ start.sums.n + folded_number start core.front
