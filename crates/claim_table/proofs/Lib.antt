@@ -3,3 +3,4 @@ pub mod DrawnLemmas
 pub mod StepLemmas
 pub mod LockLemmas
 pub mod HolderLemmas
+pub mod PassLemmas

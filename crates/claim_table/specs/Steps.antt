@@ -4,6 +4,7 @@ use Rattle.atomic_table.specs.Table.{Me, Step, rest}
 use Rattle.smarts_base.specs.Least.{or_else}
 use Rattle.confidence.specs.declared.answer.Answer.{Answer}
 use Rattle.confidence.specs.Answer.{IsValidAnswer}
+use Rattle.ordered_fold.specs.declared.ending.Ending.TheVariants.{Going}
 use Rattle.ordered_fold.specs.declared.front.Front.{Front}
 use Rattle.ordered_fold.specs.declared.seat.Seat.{Seat}
 use Rattle.ordered_fold.specs.Front.{is_going, pushed, IsSound}
@@ -155,4 +156,23 @@ joined_view view other = record view {
   merged = view.merged + other.merged;
   points = view.points + other.points;
   steps = view.steps + 1;
+}
+
+-- a front that says nothing
+abbrev pub no_front : Front
+no_front = record {
+  total = 0; test = record { min = 0; z = 0; error = 0 };
+  sums = record { n = 0; s1 = 0; s2 = 0 };
+  ending = Going;
+}
+
+abbrev pub spent_view : View
+spent_view = record {
+  seat = unmade;
+  held = 0;
+  spare = 0; merged = 0; points = 0;
+  which = 0; start = no_front;
+  announced = false;
+  steps = 0;
+  tried = no_note; glanced = no_note; looked = no_note;
 }

@@ -119,7 +119,7 @@ unfolding core_step
 step_keeps start answers core event batch is = acted_keeps start answers core event.seat event.act batch is
 
 -- before any event
-blank : (n i : ℕ) → seat_at (replicate n unmade) i ≡ unmade
+pub blank : (n i : ℕ) → seat_at (replicate n unmade) i ≡ unmade
 blank n i = by_order (cases_lt i n)
   where
     by_order : (i < n) ⊎ (n ≤ i) → seat_at (replicate n unmade) i ≡ unmade
