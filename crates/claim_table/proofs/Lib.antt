@@ -4,3 +4,4 @@ pub mod StepLemmas
 pub mod LockLemmas
 pub mod HolderLemmas
 pub mod PassLemmas
+pub mod CallLemmas

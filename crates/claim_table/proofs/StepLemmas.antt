@@ -283,6 +283,7 @@ looks lists key slots id me live free = on_own_board lists key slots id me 2 (λ
               none = λ e. refl;
               told = λ e. untold (cases_Bool v.announced);
               end = λ e. absurd (e no_end);
+              most = omega (arith, no_end);
               count = λ e. absurd (e no_end);
               alone = λ e. absurd (e no_end);
             })
@@ -299,6 +300,7 @@ looks lists key slots id me live free = on_own_board lists key slots id me 2 (λ
               none = λ e. absurd (some_end e);
               told = λ e. absurd (some_end e);
               end = λ e. refl;
+              most = (has_room v.start (answers_of lists v) core board.batch board.is (omega (arith, board.seats))).stop;
               count = λ e. (told_stop v.start (answers_of lists v) core board.is some_end).0;
               alone = λ e alone. ended alone;
             })

@@ -1,2 +1,4 @@
 pub mod Board
 pub mod Steps
+pub mod Shown
+pub mod Calls

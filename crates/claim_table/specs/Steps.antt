@@ -129,6 +129,7 @@ pub record Looked (lists : List (List Answer)) (me : Holding) (n : ℕ) (after :
   pub none : n ≡ 0 → after ≡ (looking_view 0 me.0, me.1)
   pub told : n ≡ 0 → me.0.announced ≡ false
   pub end : n ≢ 0 → after ≡ (seeing_view n me.0, me.1)
+  pub most : n ≤ 65537
   pub count : n ≢ 0 → n ≡ count_before_end me.0.start (answers_of lists me.0) + 1
   pub alone : n ≢ 0 → IsAlone me.0
       → is_going (front_at lists me.0 (next_number me.0.seat.last)).ending ≡ false

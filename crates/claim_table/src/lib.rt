@@ -2,7 +2,16 @@
 //! at a time folds, over atomic words and without a lock that anyone waits for.
 #![tactic(auto)]
 
+mod advance;
+mod board;
+mod claim;
+mod folding;
+mod pass;
 mod plays;
 mod rule;
 
+pub use advance::Advance;
+pub use board::Board;
+pub use claim::Claim;
+pub use pass::Pass;
 pub use rule::{Key, Listed, Note, Rule, View};
