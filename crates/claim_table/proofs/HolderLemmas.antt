@@ -1,20 +1,16 @@
 -- The steps of the pass that holds the front keep the rule.
-use Rattle.std.proofs.Common.{◌≡◌, ◌≢◌, ◌⊎◌, ◌+◌, ◌-◌, ◌*◌, ◌/◌, ◌%◌, ◌^◌, ◌<◌, ◌≤◌, ℕ, zero, suc, Bool, true, false, Option, Some, None, List, [], ◌∷◌, length, get_or, set, inl, inr, refl, arith, sym, ap, subst, ◌∙◌}
-use Rattle.std.specs.List.{slice_get}
-use Rattle.std.proofs.lemmas.Bool.{cases_eq, cases_lt, cases_Bool}
-use Rattle.std.proofs.lemmas.List.{set-get_or}
-use mathlib.Core.Option.{none, some}
+use Rattle.std.proofs.Common.{◌≡◌, ◌≢◌, ◌⊎◌, ◌+◌, ◌-◌, ◌*◌, ◌%◌, ◌<◌, ◌≤◌, ℕ, true, false, Option, Some, None, List, [], ◌∷◌, length, get_or, set, inl, inr, refl, arith, sym, ap, subst, ◌∙◌}
+use Rattle.std.proofs.lemmas.Bool.{cases_eq, cases_lt}
+use mathlib.Core.Option.{some}
 use lib.ListN.{get_elem?}
-use Rattle.atomic_table.specs.Table.{State, Me, Act, keeps, takes, gives, rest, Allows, homes_after}
+use Rattle.atomic_table.specs.Table.{State, keeps, gives, Allows, homes_after}
 use Rattle.confidence.specs.declared.answer.Answer.{Answer}
-use Rattle.ordered_fold.specs.declared.ending.Ending.TheVariants.{Going}
 use Rattle.ordered_fold.specs.declared.front.Front.{Front}
-use Rattle.ordered_fold.specs.declared.seat.Seat.{Seat}
-use Rattle.ordered_fold.specs.Front.{is_going, pushed, IsSound}
-use Rattle.ordered_fold.specs.Cell.{code, answer_of}
-use Rattle.ordered_fold.specs.Batch.{fold_from, pushed_number, folded_number, IsBatch}
+use Rattle.ordered_fold.specs.Front.{is_going, pushed}
+use Rattle.ordered_fold.specs.Cell.{answer_of}
+use Rattle.ordered_fold.specs.Batch.{pushed_number, folded_number}
 use Rattle.ordered_fold.specs.Machine.{Core, seat_at, cell_at, after_announce, after_release}
-use Rattle.ordered_fold.specs.Invariant.{HasHand, IsCore}
+use Rattle.ordered_fold.specs.Invariant.{IsCore}
 use Rattle.ordered_fold.proofs.Fronts.{not_both}
 use Rattle.ordered_fold.proofs.BatchLemmas.{going_of}
 use Rattle.ordered_fold.proofs.MachineLemmas.{not_some}
@@ -22,7 +18,7 @@ use Rattle.ordered_fold.proofs.FrontLemmas.{keeps_release, keeps_announce, keeps
 use Rattle.ordered_fold.proofs.RoomLemmas.{holds_valid}
 use Rattle.claim_table.specs.declared.rule.Key.{Key}
 use Rattle.claim_table.specs.declared.rule.View.{View}
-use Rattle.claim_table.specs.Board.{list_at, Shows, IsView, IsBoard, IsAlone}
+use Rattle.claim_table.specs.Board.{IsView, IsBoard, IsAlone}
 use Rattle.claim_table.specs.Steps.{Holding, answers_of, front_at, next_number, glanced_view, told_view, released_view, Glanced, Announced, Released}
 use Rattle.claim_table.proofs.ViewLemmas.{view_key, Comes, on_own_board, seat_of, moved_alike, same_seat, alone_live, alone_next}
 use Rattle.claim_table.proofs.StepLemmas.{word_1, word_2, word_3, loaded}

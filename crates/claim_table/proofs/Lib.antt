@@ -5,3 +5,4 @@ pub mod LockLemmas
 pub mod HolderLemmas
 pub mod PassLemmas
 pub mod CallLemmas
+pub mod FoldingLemmas

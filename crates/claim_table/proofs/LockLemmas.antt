@@ -1,33 +1,27 @@
 -- The steps of the lock, and those of the pass that holds it, keep the rule.
-use Rattle.std.proofs.Common.{◌≡◌, ◌≢◌, ◌⊎◌, ◌+◌, ◌-◌, ◌*◌, ◌/◌, ◌%◌, ◌^◌, ◌<◌, ◌≤◌, ℕ, zero, suc, Bool, true, false, min, max, bit_or, Option, Some, None, List, [], ◌∷◌, length, get_or, set, inl, inr, refl, arith, sym, ap, subst, ◌∙◌, length-set}
-use Rattle.std.specs.List.{sum_by, slice_get}
-use Rattle.std.proofs.lemmas.Bool.{cases_eq, cases_lt, cases_Bool}
-use Rattle.std.proofs.lemmas.List.{get_or-set_same, get_or-set_other, set-get_or}
+use Rattle.std.proofs.Common.{◌≡◌, ◌≢◌, ◌⊎◌, ◌+◌, ◌*◌, ◌/◌, ◌%◌, ◌<◌, ◌≤◌, ℕ, true, max, bit_or, Option, Some, List, ◌∷◌, length, get_or, set, inl, inr, refl, arith, sym, ap, subst, ◌∙◌}
+use Rattle.std.proofs.lemmas.Bool.{cases_lt}
 use mathlib.Core.Option.{none, some}
 use lib.ListN.{get_elem?}
 use lib.Bits.{or_step, or_zero_r}
-use Rattle.atomic_table.specs.Table.{State, Me, Act, keeps, takes, gives, rest, Allows}
+use Rattle.atomic_table.specs.Table.{State, keeps, takes, Allows}
 use Rattle.confidence.specs.declared.answer.Answer.{Answer}
-use Rattle.ordered_fold.specs.declared.ending.Ending.TheVariants.{Going}
 use Rattle.ordered_fold.specs.declared.front.Front.{Front}
-use Rattle.ordered_fold.specs.declared.seat.Seat.{Seat}
-use Rattle.ordered_fold.specs.Front.{is_going, pushed, IsSound}
-use Rattle.ordered_fold.specs.Cell.{code, answer_of}
-use Rattle.ordered_fold.specs.Batch.{fold_from, uncounted, pushed_number, folded_number, count_before_end, IsBatch}
-use Rattle.ordered_fold.specs.Machine.{Core, unmade, seat_at, cell_at, after_announce, after_release}
-use Rattle.ordered_fold.specs.Invariant.{HasLast, HasHand, IsCore}
+use Rattle.ordered_fold.specs.Front.{IsSound}
+use Rattle.ordered_fold.specs.Batch.{pushed_number, folded_number, IsBatch}
+use Rattle.ordered_fold.specs.Machine.{Core, seat_at}
+use Rattle.ordered_fold.specs.Invariant.{IsCore}
 use Rattle.ordered_fold.proofs.Fronts.{not_both}
-use Rattle.ordered_fold.proofs.BatchLemmas.{IsPrefix, prefix_of, going_of}
-use Rattle.ordered_fold.proofs.MachineLemmas.{IsIdle, some_is, not_some, no_hand, live_within}
-use Rattle.ordered_fold.proofs.FrontLemmas.{holder_lives, keeps_try, keeps_release, keeps_announce, keeps_push, glanced_of, folds_next, FoldsNext, folded_within, going_count, ended_count}
-use Rattle.ordered_fold.proofs.RoomLemmas.{has_room, holds_valid}
+use Rattle.ordered_fold.proofs.BatchLemmas.{IsPrefix, prefix_of}
+use Rattle.ordered_fold.proofs.MachineLemmas.{IsIdle}
+use Rattle.ordered_fold.proofs.FrontLemmas.{holder_lives, keeps_try, folded_within}
 use Rattle.claim_table.specs.declared.rule.Key.{Key}
 use Rattle.claim_table.specs.declared.rule.View.{View}
-use Rattle.claim_table.specs.Board.{list_at, Shows, IsView, IsBoard, IsAlone}
-use Rattle.claim_table.specs.Steps.{Holding, answers_of, front_at, next_number, refused_view, holding_view, glanced_view, told_view, released_view, Tried, Glanced, Announced, Released}
+use Rattle.claim_table.specs.Board.{IsView, IsBoard, IsAlone}
+use Rattle.claim_table.specs.Steps.{Holding, answers_of, front_at, next_number, refused_view, holding_view, Tried}
 use Rattle.claim_table.proofs.DrawnLemmas.{folded_drawn}
-use Rattle.claim_table.proofs.ViewLemmas.{found_at, view_key, Comes, on_own_board, seat_of, moved, moved_alike, same_seat, alone_live, alone_next}
-use Rattle.claim_table.proofs.StepLemmas.{word_1, word_2, word_3, idle_seat, loaded}
+use Rattle.claim_table.proofs.ViewLemmas.{view_key, Comes, on_own_board, seat_of, moved_alike, same_seat, alone_live, alone_next}
+use Rattle.claim_table.proofs.StepLemmas.{word_1, idle_seat}
 
 -- a number with its lowest bit set
 or_one : (n : ℕ) → bit_or n 1 ≡ n / 2 * 2 + 1

@@ -1,15 +1,13 @@
 -- Making the first pass, splitting one and joining two keep the rule.
-use Rattle.std.proofs.Common.{◌≡◌, ◌≢◌, ◌⊎◌, ◌+◌, ◌-◌, ◌*◌, ◌%◌, ◌<◌, ◌≤◌, ℕ, zero, suc, Bool, true, false, min, Option, Some, None, List, [], ◌∷◌, ◌++◌, length, get_or, set, replicate, inl, inr, refl, arith, sym, ap, subst, ◌∙◌, length-set, length-append}
+use Rattle.std.proofs.Common.{◌≡◌, ◌≢◌, ◌⊎◌, ◌+◌, ◌<◌, ◌≤◌, ℕ, zero, suc, true, false, Some, List, [], ◌∷◌, ◌++◌, length, set, replicate, inl, inr, refl, arith, sym, ap, subst, ◌∙◌, length-set, length-append}
 use Rattle.std.specs.List.{sum_by}
-use Rattle.std.proofs.lemmas.Bool.{cases_eq, cases_lt}
 use Rattle.std.proofs.lemmas.List.{get_or-set_same, get_or-set_other, length-replicate}
 use Rattle.std.proofs.lemmas.List.Sums.{sum_by_push, get_or-le-sum_by}
-use mathlib.Core.Option.{none, some}
+use mathlib.Core.Option.{some}
 use lib.ListN.{get_elem?}
-use Rattle.atomic_table.specs.Table.{State, Splits, Joins, opening}
+use Rattle.atomic_table.specs.Table.{Splits, Joins, opening}
 use Rattle.atomic_table.proofs.Lists.{at_set, set_else}
 use Rattle.confidence.specs.declared.answer.Answer.{Answer}
-use Rattle.ordered_fold.specs.declared.front.Front.{Front}
 use Rattle.ordered_fold.specs.declared.seat.Seat.{Seat}
 use Rattle.ordered_fold.specs.Batch.{folded_number, IsBatch}
 use Rattle.ordered_fold.specs.Machine.{Core, unmade, seat_at, core_start, child_of, joined_of, after_split, after_join}
@@ -22,7 +20,7 @@ use Rattle.claim_table.specs.declared.rule.Key.{Key}
 use Rattle.claim_table.specs.declared.rule.View.{View}
 use Rattle.claim_table.specs.Board.{list_at, Shows, IsView, IsBoard, first_view}
 use Rattle.claim_table.specs.Steps.{parent_view, child_view, joined_view, spent_view}
-use Rattle.claim_table.proofs.ViewLemmas.{found_at, sum-changed, own_key, view_key, seat_of}
+use Rattle.claim_table.proofs.ViewLemmas.{found_at, sum-changed, seat_of}
 
 -- an element of a list with one more at its end
 at_end :

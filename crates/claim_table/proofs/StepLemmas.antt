@@ -1,21 +1,20 @@
 -- The steps of a pass that holds no front keep the rule, and tell what they say.
-use Rattle.std.proofs.Common.{◌≡◌, ◌≢◌, ◌⊎◌, ◌+◌, ◌-◌, ◌*◌, ◌/◌, ◌%◌, ◌^◌, ◌<◌, ◌≤◌, ℕ, zero, suc, Bool, true, false, min, bit_or, Option, Some, None, List, [], ◌∷◌, length, get_or, set, inl, inr, refl, arith, sym, ap, subst, ◌∙◌, length-set}
+use Rattle.std.proofs.Common.{◌≡◌, ◌≢◌, ◌⊎◌, ◌+◌, ◌-◌, ◌%◌, ◌^◌, ◌<◌, ◌≤◌, ℕ, suc, true, false, min, Option, Some, None, List, ◌∷◌, length, get_or, set, inl, inr, refl, arith, sym, ap, subst, ◌∙◌, length-set}
 use Rattle.std.specs.List.{sum_by, slice_get}
 use Rattle.std.proofs.lemmas.Bool.{cases_eq, cases_lt, cases_Bool, lt-ltb, le-ltb}
 use Rattle.std.proofs.lemmas.List.{get_or-set_same, get_or-set_other, set-get_or}
-use mathlib.Core.Option.{none, some}
+use mathlib.Core.Option.{some}
 use lib.ListN.{get_elem?}
-use Rattle.atomic_table.specs.Table.{State, Me, Act, keeps, takes, gives, Allows}
+use Rattle.atomic_table.specs.Table.{State, keeps, Allows}
 use Rattle.confidence.specs.declared.answer.Answer.{Answer}
 use Rattle.ordered_fold.specs.declared.front.Front.{Front}
-use Rattle.ordered_fold.specs.declared.seat.Seat.{Seat}
 use Rattle.ordered_fold.specs.Front.{is_going}
 use Rattle.ordered_fold.specs.Cell.{code}
-use Rattle.ordered_fold.specs.Batch.{fold_from, folded_number, count_before_end, IsBatch}
+use Rattle.ordered_fold.specs.Batch.{folded_number}
 use Rattle.ordered_fold.specs.Machine.{Core, unmade, seat_at, cell_at, code_or_zero, drawing, after_claim, after_report}
 use Rattle.ordered_fold.specs.Invariant.{HasLast, HasHand, IsCore}
 use Rattle.ordered_fold.proofs.Fronts.{not_both}
-use Rattle.ordered_fold.proofs.MachineLemmas.{IsIdle, some_is, not_some, live_within}
+use Rattle.ordered_fold.proofs.MachineLemmas.{IsIdle, live_within}
 use Rattle.ordered_fold.proofs.EventLemmas.{keeps_claim, keeps_report}
 use Rattle.ordered_fold.proofs.SeatLemmas.{keeps_look}
 use Rattle.ordered_fold.proofs.RunLemmas.{told_stop}
@@ -23,9 +22,9 @@ use Rattle.ordered_fold.proofs.RoomLemmas.{has_room}
 use Rattle.claim_table.proofs.DrawnLemmas.{front_of_drawn}
 use Rattle.claim_table.specs.declared.rule.Key.{Key}
 use Rattle.claim_table.specs.declared.rule.View.{View}
-use Rattle.claim_table.specs.Board.{list_at, Shows, IsView, IsBoard, IsAlone}
+use Rattle.claim_table.specs.Board.{Shows, IsView, IsBoard, IsAlone}
 use Rattle.claim_table.specs.Steps.{Holding, answers_of, front_at, next_number, drawn_view, reported_view, looking_view, seeing_view, Claimed, Reported, Looked}
-use Rattle.claim_table.proofs.ViewLemmas.{found_at, sum-changed, view_key, Comes, on_own_board, seat_of, moved, moved_alike, same_seat, alone_live, alone_next}
+use Rattle.claim_table.proofs.ViewLemmas.{sum-changed, view_key, Comes, on_own_board, seat_of, moved, moved_alike, same_seat, alone_next}
 
 -- the words of a core
 pub word_0 :

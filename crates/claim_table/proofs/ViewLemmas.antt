@@ -1,5 +1,5 @@
 -- The views of a board's passes, and how one that changed leaves the rule.
-use Rattle.std.proofs.Common.{◌≡◌, ◌≢◌, ◌⊎◌, ◌+◌, ◌-◌, ◌*◌, ◌/◌, ◌%◌, ◌<◌, ◌≤◌, ℕ, zero, suc, Bool, true, false, min, Option, Some, None, List, [], ◌∷◌, length, get_or, set, inl, inr, refl, arith, sym, ap, subst, ◌∙◌, length-set}
+use Rattle.std.proofs.Common.{◌≡◌, ◌≢◌, ◌⊎◌, ◌+◌, ◌-◌, ◌%◌, ◌<◌, ◌≤◌, ℕ, zero, suc, true, false, min, Option, Some, None, List, [], ◌∷◌, length, get_or, set, inl, inr, refl, arith, sym, ap, subst, ◌∙◌, length-set}
 use Rattle.std.specs.List.{sum_by}
 use Rattle.std.proofs.lemmas.Bool.{cases_eq, cases_lt, cases_Bool}
 use Rattle.std.proofs.lemmas.List.Sums.{sum_by-set, get_or-le-sum_by}
@@ -7,20 +7,19 @@ use Rattle.std.proofs.lemmas.List.{get_or-set_same, get_or-set_other, set-get_or
 use mathlib.Core.Option.{none, some}
 use mathlib.Core.Option as maybe
 use lib.ListN.{get_elem?}
-use Rattle.atomic_table.specs.Table.{State, Me, Step, Act, Valid, stepped, carried_after, Allows}
+use Rattle.atomic_table.specs.Table.{State, Act, Valid, stepped, carried_after, Allows}
 use Rattle.atomic_table.proofs.Lists.{at_set}
 use Rattle.confidence.specs.declared.answer.Answer.{Answer}
 use Rattle.ordered_fold.specs.declared.front.Front.{Front}
-use Rattle.ordered_fold.specs.declared.seat.Seat.{Seat}
 use Rattle.ordered_fold.specs.Batch.{folded_number}
-use Rattle.ordered_fold.specs.Machine.{Core, unmade, seat_at, cell_at}
-use Rattle.ordered_fold.specs.Invariant.{HasLast, HasHand, IsCore}
+use Rattle.ordered_fold.specs.Machine.{Core, unmade, seat_at}
+use Rattle.ordered_fold.specs.Invariant.{HasLast, IsCore}
 use Rattle.ordered_fold.proofs.Fronts.{not_both}
-use Rattle.ordered_fold.proofs.MachineLemmas.{some_is, not_some, live_within}
+use Rattle.ordered_fold.proofs.MachineLemmas.{live_within}
 use Rattle.claim_table.specs.declared.rule.Key.{Key}
 use Rattle.claim_table.specs.declared.rule.View.{View}
 use Rattle.claim_table.specs.Board.{list_at, Shows, IsView, IsBoard, IsAlone}
-use Rattle.claim_table.specs.Steps.{Holding, answers_of, next_number}
+use Rattle.claim_table.specs.Steps.{Holding, next_number}
 
 -- an element that is there, by its place
 pub found_at :

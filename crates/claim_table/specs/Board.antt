@@ -1,6 +1,6 @@
 -- What holds of a board between any two word steps: its words, the front where it is at home, and the
 -- views of its passes are a state of the machine of ordered_fold, which keeps the machine's invariant.
-use Rattle.std.specs.Prelude.{◌≡◌, ◌+◌, ◌%◌, ◌<◌, ◌≤◌, ℕ, true, false, min, Option, Some, None, List, [], ◌∷◌, length, slice_index_or}
+use Rattle.std.specs.Prelude.{◌≡◌, ◌+◌, ◌%◌, ◌<◌, ◌≤◌, ℕ, true, false, min, Option, Some, List, [], ◌∷◌, length, slice_index_or}
 use Rattle.std.specs.List.{sum_by}
 use mathlib.Core.Option.{none, some}
 use lib.ListN.{get_elem?}

@@ -1,5 +1,5 @@
 -- What each call of a pass does, with the answers of its board.
-use Rattle.std.specs.Prelude.{◌≡◌, ◌≢◌, ◌⊎◌, ◌+◌, ◌-◌, ◌%◌, ◌<◌, ◌≤◌, ℕ, Bool, true, false, nat_lt, if◌then◌else◌, Option, Some, None, List, [], ◌∷◌, length}
+use Rattle.std.specs.Prelude.{◌≡◌, ◌⊎◌, ◌+◌, ◌%◌, ◌<◌, ◌≤◌, ℕ, true, false, nat_lt, if◌then◌else◌, Option, Some, None, List, [], ◌∷◌, length}
 use Rattle.confidence.specs.declared.answer.Answer.{Answer}
 use Rattle.ordered_fold.specs.declared.ending.Ending.{Ending}
 use Rattle.ordered_fold.specs.declared.front.Front.{Front}
@@ -9,7 +9,6 @@ use Rattle.claim_table.specs.declared.claim.Claim.{Claim}
 use Rattle.claim_table.specs.declared.claim.Claim.TheVariants.{Point, Past}
 use Rattle.claim_table.specs.declared.advance.Advance.{Advance}
 use Rattle.claim_table.specs.declared.advance.Advance.TheVariants.{Moved, Busy}
-use Rattle.claim_table.specs.declared.rule.Note.{Note}
 use Rattle.claim_table.specs.declared.rule.View.{View}
 use Rattle.claim_table.specs.Board.{IsAlone}
 use Rattle.claim_table.specs.Steps.{Holding, answers_of, front_at, next_number, note, drawn_view, refused_view, looking_view, seeing_view}

@@ -1,5 +1,5 @@
 -- What contracts see of a board and of a pass.
-use Rattle.std.specs.Prelude.{◌≡◌, ◌≢◌, ◌⊎◌, ◌+◌, ◌<◌, ◌≤◌, ℕ, Bool, true, false, Option, Some, None, List, [], length}
+use Rattle.std.specs.Prelude.{◌≡◌, ◌+◌, ℕ, Bool, true, false, Option, List, [], length}
 use Rattle.atomic_table.specs.Seated.{TableId}
 use Rattle.confidence.specs.declared.answer.Answer.{Answer}
 use Rattle.ordered_fold.specs.declared.front.Front.{Front}

@@ -1,12 +1,10 @@
 -- What each word step tells the pass that does it: the number found there, and the pass's view after.
-use Rattle.std.specs.Prelude.{◌≡◌, ◌≢◌, ◌+◌, ◌-◌, ◌*◌, ◌/◌, ◌%◌, ◌<◌, ◌≤◌, ◌||◌, ℕ, Bool, true, false, not, ◌==◌, nat_lt, if◌then◌else◌, Option, Some, None, List, [], ◌∷◌, length, slice_get}
+use Rattle.std.specs.Prelude.{◌≡◌, ◌≢◌, ◌+◌, ◌-◌, ◌/◌, ◌%◌, ◌<◌, ◌≤◌, ℕ, true, false, nat_lt, if◌then◌else◌, Option, Some, None, List, ◌∷◌, length}
 use Rattle.atomic_table.specs.Table.{Me, Step, rest}
-use Rattle.smarts_base.specs.Least.{or_else}
 use Rattle.confidence.specs.declared.answer.Answer.{Answer}
 use Rattle.confidence.specs.Answer.{IsValidAnswer}
 use Rattle.ordered_fold.specs.declared.ending.Ending.TheVariants.{Going}
 use Rattle.ordered_fold.specs.declared.front.Front.{Front}
-use Rattle.ordered_fold.specs.declared.seat.Seat.{Seat}
 use Rattle.ordered_fold.specs.Front.{is_going, pushed, IsSound}
 use Rattle.ordered_fold.specs.Cell.{answer_of}
 use Rattle.ordered_fold.specs.Batch.{fold_from, pushed_number, count_before_end, IsBatch}

@@ -2,7 +2,7 @@ use Rattle.std.proofs.Common.{◌≡◌, length, rules, arith, ap, subst, ◌∙
 use Rattle.claim_table.specs.Board.{list_at}
 use Rattle.claim_table.specs.Shown.{BoardShown}
 use Rattle.claim_table.proofs.StepLemmas.{reports}
-use Rattle.claim_table.proofs.CallLemmas.{IsReady, ready}
+use Rattle.claim_table.proofs.CallLemmas.{ready}
 use Rattle.claim_table.proofs.board.Board.report.Goals as goal
 
 pub swap-requires : goal.swap-requires

@@ -1,5 +1,4 @@
-use Rattle.std.proofs.Common.{◌≡◌, ◌+◌, List, [], ◌∷◌, Some, replicate, length, sym, ap, ◌∙◌}
-use Rattle.claim_table.specs.Board.{IsBoard, list_at, first_view}
+use Rattle.std.proofs.Common.{◌+◌, replicate, ap, ◌∙◌}
 use Rattle.claim_table.proofs.PassLemmas.{opens}
 use Rattle.claim_table.proofs.board.Board.resume.Goals as goal
 
