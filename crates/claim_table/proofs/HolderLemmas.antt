@@ -104,21 +104,24 @@ glances lists key slots id me live holder goes below =
         by_cell :
             (word ≡ 0) ⊎ (word ≢ 0)
             → Comes (IsBoard lists (view_key v)) s id me (v.held + 3) (λ n. n) (Glanced lists me) word
-        by_cell (inl bare) =
-            (glanced_view v.held 0 v, keeps, tt,
-            moved_alike lists (view_key v) s board id v (glanced_view v.held 0 v) core (set s.words (v.held + 3) word) s.homes at live live board.is
-                (same_seat lists (view_key v) s board id v at live) refl words board.home board.away
-                view (λ j u differ e. board.each j u e) refl refl refl,
-            record {
-              empty = λ e. refl;
-              alone = λ e alone. all_drawn alone;
-              full = λ e. absurd (e bare);
-              drawn = λ e. absurd (e bare);
-              valid = λ e. absurd (e bare);
-              next = λ e. absurd (e bare);
-              sound = λ e. absurd (e bare);
-              count = λ e. absurd (e bare);
-            })
+        by_cell (inl bare) = (
+          glanced_view v.held 0 v,
+          keeps,
+          tt,
+          moved_alike lists (view_key v) s board id v (glanced_view v.held 0 v) core (set s.words (v.held + 3) word) s.homes at live live board.is
+              (same_seat lists (view_key v) s board id v at live) refl words board.home board.away
+              view (λ j u differ e. board.each j u e) refl refl refl,
+          record {
+            empty = λ e. refl;
+            alone = λ e alone. all_drawn alone;
+            full = λ e. absurd (e bare);
+            drawn = λ e. absurd (e bare);
+            valid = λ e. absurd (e bare);
+            next = λ e. absurd (e bare);
+            sound = λ e. absurd (e bare);
+            count = λ e. absurd (e bare);
+          },
+        )
           where
             view : IsView (view_key v) core.stop m (glanced_view v.held 0 v)
             view = record {
@@ -141,22 +144,25 @@ glances lists key slots id me live holder goes below =
                     let e : j ≡ id = alone_live lists (view_key v) s board id v at alone j has.0 in
                     let here : (seat_at core.seats id).hand ≡ Some v.held = subst (λ k. (seat_at core.seats k).hand ≡ Some v.held) e has.1 in
                     absurd (not_some (ap (λ x. x.hand) is.seat ∙ is.hand) here)
-        by_cell (inr filled) =
-            (glanced_view (v.held + 1) word v, keeps, tt,
-            moved_alike lists (view_key v) s board id v (glanced_view (v.held + 1) word v) after (set s.words (v.held + 3) word) s.homes at live live pushes
-                (same_seat lists (view_key v) s board id v at live) refl words
-                (λ e. absurd (omega (arith, e, is.odd))) board.away
-                view others refl refl refl,
-            record {
-              empty = λ e. absurd (filled e);
-              alone = λ e. absurd (filled e);
-              full = λ e. refl;
-              drawn = λ e alone. omega (arith, (board.is.code v.held filled).0, alone_next lists (view_key v) s board id v at live alone);
-              valid = λ e. holds_valid v.start (answers_of lists v) core v.held board.batch board.is filled;
-              next = λ e. next;
-              sound = λ e. (prefix_at lists v (v.held + 1) board.batch (omega (arith, below))).sound;
-              count = λ e. counted;
-            })
+        by_cell (inr filled) = (
+          glanced_view (v.held + 1) word v,
+          keeps,
+          tt,
+          moved_alike lists (view_key v) s board id v (glanced_view (v.held + 1) word v) after (set s.words (v.held + 3) word) s.homes at live live pushes
+              (same_seat lists (view_key v) s board id v at live) refl words
+              (λ e. absurd (omega (arith, e, is.odd))) board.away
+              view others refl refl refl,
+          record {
+            empty = λ e. absurd (filled e);
+            alone = λ e. absurd (filled e);
+            full = λ e. refl;
+            drawn = λ e alone. omega (arith, (board.is.code v.held filled).0, alone_next lists (view_key v) s board id v at live alone);
+            valid = λ e. holds_valid v.start (answers_of lists v) core v.held board.batch board.is filled;
+            next = λ e. next;
+            sound = λ e. (prefix_at lists v (v.held + 1) board.batch (omega (arith, below))).sound;
+            count = λ e. counted;
+          },
+        )
           where
             going : is_going core.front.ending ≡ true
             going = subst (λ f. is_going f.ending ≡ true) (sym is.front) goes
@@ -234,12 +240,19 @@ announces lists key slots id me word live holder over stored =
         (s : State (Option Front) View) → IsBoard lists (view_key v) s → get_elem? s.views id ≡ some v
         → (n : ℕ) × (get_or s.words 2 0 ≡ n)
         × Comes (IsBoard lists (view_key v)) s id me 2 (λ n. word) (λ n. Announced lists me word) n
-    does s board at =
-        (core.stop, word_2 lists (view_key v) s board, (told_view v, keeps, tt,
+    does s board at = (
+      core.stop,
+      word_2 lists (view_key v) s board,
+      (
+        told_view v,
+        keeps,
+        tt,
         moved_alike lists (view_key v) s board id v (told_view v) after (set s.words 2 word) s.homes at live live tells
             (same_seat lists (view_key v) s board id v at live) refl words board.home board.away
             view others refl refl refl,
-        record { view = refl }))
+        record { view = refl },
+      ),
+    )
       where
         core : Core
         core = board.core
@@ -294,13 +307,20 @@ releases lists key slots id me word live holder stored carried =
         (s : State (Option Front) View) → IsBoard lists (view_key v) s → get_elem? s.views id ≡ some v
         → (n : ℕ) × (get_or s.words 1 0 ≡ n)
         × Comes (IsBoard lists (view_key v)) s id me 1 (λ n. word) (λ n. Released me word) n
-    does s board at =
-        (core.lock, word_1 lists (view_key v) s board, (released_view v, gives, tt,
+    does s board at = (
+      core.lock,
+      word_1 lists (view_key v) s board,
+      (
+        released_view v,
+        gives,
+        tt,
         moved_alike lists (view_key v) s board id v (released_view v) after (set s.words 1 word) (homes_after s.homes me.1 gives) at live live frees
             (ap (λ x. set core.seats id (record x { holder = false })) is.seat) refl words
             (λ e. home) (λ o. absurd (omega (arith, o)))
             view (λ j u differ e. board.each j u e) refl refl refl,
-        record { view = refl }))
+        record { view = refl },
+      ),
+    )
       where
         core : Core
         core = board.core

@@ -6,3 +6,5 @@ pub mod HolderLemmas
 pub mod PassLemmas
 pub mod CallLemmas
 pub mod FoldingLemmas
+pub mod MoveLemmas
+pub mod ClosingLemmas

@@ -90,21 +90,24 @@ tries lists key slots id me idle =
         by_parity :
             (core.lock % 2 ≡ 0) ⊎ (core.lock % 2 ≡ 1)
             → Comes (IsBoard lists (view_key v)) s id me 1 (λ n. bit_or n 1) (Tried lists me) core.lock
-        by_parity (inr odd) =
-            (refused_view core.lock v, keeps, tt,
-            moved_alike lists (view_key v) s board id v (refused_view core.lock v) core (set s.words 1 (bit_or core.lock 1)) s.homes at idle.live idle.live board.is
-                (same_seat lists (view_key v) s board id v at idle.live) refl
-                (set_lock (bit_or core.lock 1) ∙ ap (λ x. core.claim ∷ x ∷ core.stop ∷ core.cells) same)
-                board.home board.away view (λ j u differ e. board.each j u e) refl refl refl,
-            record {
-              busy = λ o. refl;
-              alone = λ o alone. nobody (board.is.held odd) alone;
-              got = λ e. absurd (omega (arith, e, odd));
-              drawn = λ e. absurd (omega (arith, e, odd));
-              batch = board.batch;
-              sound = λ e. absurd (omega (arith, e, odd));
-              count = λ e. absurd (omega (arith, e, odd));
-            })
+        by_parity (inr odd) = (
+          refused_view core.lock v,
+          keeps,
+          tt,
+          moved_alike lists (view_key v) s board id v (refused_view core.lock v) core (set s.words 1 (bit_or core.lock 1)) s.homes at idle.live idle.live board.is
+              (same_seat lists (view_key v) s board id v at idle.live) refl
+              (set_lock (bit_or core.lock 1) ∙ ap (λ x. core.claim ∷ x ∷ core.stop ∷ core.cells) same)
+              board.home board.away view (λ j u differ e. board.each j u e) refl refl refl,
+          record {
+            busy = λ o. refl;
+            alone = λ o alone. nobody (board.is.held odd) alone;
+            got = λ e. absurd (omega (arith, e, odd));
+            drawn = λ e. absurd (omega (arith, e, odd));
+            batch = board.batch;
+            sound = λ e. absurd (omega (arith, e, odd));
+            count = λ e. absurd (omega (arith, e, odd));
+          },
+        )
           where
             same : bit_or core.lock 1 ≡ core.lock
             same = or_one core.lock ∙ omega (arith, odd)
@@ -125,23 +128,26 @@ tries lists key slots id me idle =
               told = was.told;
               spent = was.spent;
             }
-        by_parity (inl even) =
-            (holding_view core.lock v, takes 0 (Some core.front), there,
-            moved_alike lists (view_key v) s board id v (holding_view core.lock v) after (set s.words 1 (bit_or core.lock 1)) (set s.homes 0 none) at idle.live idle.live is
-                (ap (λ x. set core.seats id (record x { holder = true })) mine) refl
-                (set_lock (bit_or core.lock 1) ∙ ap (λ x. core.claim ∷ x ∷ core.stop ∷ core.cells) next)
-                (λ e. absurd (omega (arith, e, even)))
-                (λ o. ap (λ hs. set hs 0 none) (board.home even))
-                view others refl refl refl,
-            record {
-              busy = λ o. absurd (omega (arith, o, even));
-              alone = λ o. absurd (omega (arith, o, even));
-              got = λ e. ap (λ f. (holding_view core.lock v, (0, Some f) ∷ me.1)) (board.is.front ∙ ap (front_at lists v) (sym half));
-              drawn = λ e. (subst (λ k. k ≤ length (answers_of lists v)) (sym half) within, λ alone. drawn alone);
-              batch = board.batch;
-              sound = λ e. subst (λ k. IsSound (front_at lists v k)) (sym half) (prefix_at lists v m board.batch within).sound;
-              count = λ e. subst (λ k. pushed_number (front_at lists v k) ≡ v.start.sums.n + k) (sym half) counted;
-            })
+        by_parity (inl even) = (
+          holding_view core.lock v,
+          takes 0 (Some core.front),
+          there,
+          moved_alike lists (view_key v) s board id v (holding_view core.lock v) after (set s.words 1 (bit_or core.lock 1)) (set s.homes 0 none) at idle.live idle.live is
+              (ap (λ x. set core.seats id (record x { holder = true })) mine) refl
+              (set_lock (bit_or core.lock 1) ∙ ap (λ x. core.claim ∷ x ∷ core.stop ∷ core.cells) next)
+              (λ e. absurd (omega (arith, e, even)))
+              (λ o. ap (λ hs. set hs 0 none) (board.home even))
+              view others refl refl refl,
+          record {
+            busy = λ o. absurd (omega (arith, o, even));
+            alone = λ o. absurd (omega (arith, o, even));
+            got = λ e. ap (λ f. (holding_view core.lock v, (0, Some f) ∷ me.1)) (board.is.front ∙ ap (front_at lists v) (sym half));
+            drawn = λ e. (subst (λ k. k ≤ length (answers_of lists v)) (sym half) within, λ alone. drawn alone);
+            batch = board.batch;
+            sound = λ e. subst (λ k. IsSound (front_at lists v k)) (sym half) (prefix_at lists v m board.batch within).sound;
+            count = λ e. subst (λ k. pushed_number (front_at lists v k) ≡ v.start.sums.n + k) (sym half) counted;
+          },
+        )
           where
             half : core.lock / 2 ≡ m
             half = omega (arith, board.is.even even)

@@ -81,13 +81,21 @@ claims lists key slots id me idle fresh unseen =
         (s : State (Option Front) View) → IsBoard lists (view_key v) s → get_elem? s.views id ≡ some v
         → (n : ℕ) × (get_or s.words 0 0 ≡ n)
         × Comes (IsBoard lists (view_key v)) s id me 0 (λ n. (n + 1) % 2 ^ 64) (Claimed lists me) n
-    does s board at =
-        (core.claim, word_0 lists (view_key v) s board,
-        (w, keeps, tt, kept, record {
+    does s board at = (
+      core.claim,
+      word_0 lists (view_key v) s board,
+      (
+        w,
+        keeps,
+        tt,
+        kept,
+        record {
           view = refl;
           later = λ last e. (board.is.each id).last last (subst (λ x. HasLast last x) (sym mine) (idle.live, e));
           alone = λ alone. alone_next lists (view_key v) s board id v at idle.live alone;
-        }))
+        },
+      ),
+    )
       where
         core : Core
         core = board.core
@@ -273,36 +281,42 @@ looks lists key slots id me live free = on_own_board lists key slots id me 2 (λ
         by_stop :
             (core.stop ≡ 0) ⊎ (core.stop ≢ 0)
             → Comes (IsBoard lists (view_key v)) s id me 2 (λ n. n) (Looked lists me) core.stop
-        by_stop (inl no_end) =
-            (looking_view 0 v, keeps, tt,
-            moved_alike lists (view_key v) s board id v (looking_view 0 v) core (set s.words 2 core.stop) s.homes at live live board.is
-                (same_seat lists (view_key v) s board id v at live) refl words board.home board.away
-                (view (looking_view 0 v) refl refl refl refl refl refl refl) (λ j u differ e. board.each j u e) refl refl refl,
-            record {
-              none = λ e. refl;
-              told = λ e. untold (cases_Bool v.announced);
-              end = λ e. absurd (e no_end);
-              most = omega (arith, no_end);
-              count = λ e. absurd (e no_end);
-              alone = λ e. absurd (e no_end);
-            })
+        by_stop (inl no_end) = (
+          looking_view 0 v,
+          keeps,
+          tt,
+          moved_alike lists (view_key v) s board id v (looking_view 0 v) core (set s.words 2 core.stop) s.homes at live live board.is
+              (same_seat lists (view_key v) s board id v at live) refl words board.home board.away
+              (view (looking_view 0 v) refl refl refl refl refl refl refl) (λ j u differ e. board.each j u e) refl refl refl,
+          record {
+            none = λ e. refl;
+            told = λ e. untold (cases_Bool v.announced);
+            end = λ e. absurd (e no_end);
+            most = omega (arith, no_end);
+            count = λ e. absurd (e no_end);
+            alone = λ e. absurd (e no_end);
+          },
+        )
           where
             untold : (v.announced ≡ true) ⊎ (v.announced ≡ false) → v.announced ≡ false
             untold (inl told) = absurd (omega (arith, was.told told, no_end))
             untold (inr not_told) = not_told
-        by_stop (inr some_end) =
-            (seeing_view core.stop v, keeps, tt,
-            moved_alike lists (view_key v) s board id v (seeing_view core.stop v) after (set s.words 2 core.stop) s.homes at live live is
-                (ap (λ x. set core.seats id (record x { seen_end = Some (core.stop - 1) })) mine) refl words board.home board.away
-                (view (seeing_view core.stop v) refl refl refl refl refl refl refl) (λ j u differ e. board.each j u e) refl refl refl,
-            record {
-              none = λ e. absurd (some_end e);
-              told = λ e. absurd (some_end e);
-              end = λ e. refl;
-              most = (has_room v.start (answers_of lists v) core board.batch board.is (omega (arith, board.seats))).stop;
-              count = λ e. (told_stop v.start (answers_of lists v) core board.is some_end).0;
-              alone = λ e alone. ended alone;
-            })
+        by_stop (inr some_end) = (
+          seeing_view core.stop v,
+          keeps,
+          tt,
+          moved_alike lists (view_key v) s board id v (seeing_view core.stop v) after (set s.words 2 core.stop) s.homes at live live is
+              (ap (λ x. set core.seats id (record x { seen_end = Some (core.stop - 1) })) mine) refl words board.home board.away
+              (view (seeing_view core.stop v) refl refl refl refl refl refl refl) (λ j u differ e. board.each j u e) refl refl refl,
+          record {
+            none = λ e. absurd (some_end e);
+            told = λ e. absurd (some_end e);
+            end = λ e. refl;
+            most = (has_room v.start (answers_of lists v) core board.batch board.is (omega (arith, board.seats))).stop;
+            count = λ e. (told_stop v.start (answers_of lists v) core board.is some_end).0;
+            alone = λ e alone. ended alone;
+          },
+        )
           where
             after : Core
             after = record core { seats = set core.seats id (record (seat_at core.seats id) { seen_end = Some (core.stop - 1) }) }

@@ -68,8 +68,8 @@ pub on_own_board :
     (lists : List (List Answer)) (key : Key) (slots id : ℕ) (me : Holding) (i : ℕ) (f : ℕ → ℕ)
     (then : ℕ → Holding → Type 0) → me.0.seat.live ≡ true
     → ((s : State (Option Front) View) → IsBoard lists (view_key me.0) s
-        → get_elem? s.views id ≡ some me.0
-        → (n : ℕ) × (get_or s.words i 0 ≡ n) × Comes (IsBoard lists (view_key me.0)) s id me i f then n)
+    → get_elem? s.views id ≡ some me.0
+    → (n : ℕ) × (get_or s.words i 0 ≡ n) × Comes (IsBoard lists (view_key me.0)) s id me i f then n)
     → Allows (IsBoard lists key) slots id me i f then
 on_own_board lists key slots id me i f then live does s board deep at small =
     let same : key ≡ view_key me.0 = own_key lists key s id me.0 board at live in
@@ -98,7 +98,7 @@ pub moved :
     → Shows w (seat_at core.seats id)
     → IsView key core.stop (folded_number key.start core.front) w
     → ((j : ℕ) (u : View) → j ≢ id → get_elem? s.views j ≡ some u
-        → IsView key core.stop (folded_number key.start core.front) u)
+    → IsView key core.stop (folded_number key.start core.front) u)
     → w.spare ≡ v.spare → w.merged ≡ v.merged
     → sum_by (λ u. u.points) (set s.views id w) ≡ min core.claim (length (list_at lists key.which))
     → IsBoard lists key (record { words = words; homes = homes; views = set s.views id w })
@@ -147,7 +147,7 @@ pub moved_alike :
     → (core.lock % 2 ≡ 1 → homes ≡ none ∷ [])
     → IsView key core.stop (folded_number key.start core.front) w
     → ((j : ℕ) (u : View) → j ≢ id → get_elem? s.views j ≡ some u
-        → IsView key core.stop (folded_number key.start core.front) u)
+    → IsView key core.stop (folded_number key.start core.front) u)
     → w.spare ≡ v.spare → w.merged ≡ v.merged → w.points ≡ v.points
     → IsBoard lists key (record { words = words; homes = homes; views = set s.views id w })
 moved_alike lists key s board id v w core words homes at live lives is seats claim same home away view others spare merged points =

@@ -62,11 +62,16 @@ abbrev pub first_view : Key → View
 first_view key = record {
   seat = record unmade { made = true; live = true };
   held = 0;
-  spare = 64; merged = 1; points = 0;
-  which = key.which; start = key.start;
+  spare = 64;
+  merged = 1;
+  points = 0;
+  which = key.which;
+  start = key.start;
   announced = false;
   steps = 0;
-  tried = no_note; glanced = no_note; looked = no_note;
+  tried = no_note;
+  glanced = no_note;
+  looked = no_note;
 }
 
 -- the pass is the only one left

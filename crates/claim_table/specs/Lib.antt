@@ -2,3 +2,4 @@ pub mod Board
 pub mod Steps
 pub mod Shown
 pub mod Calls
+pub mod Closing

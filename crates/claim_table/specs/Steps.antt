@@ -72,7 +72,6 @@ pub record Tried (lists : List (List Answer)) (me : Holding) (n : ℕ) (after : 
   pub busy : n % 2 ≡ 1 → after ≡ (refused_view n me.0, me.1)
   pub alone : n % 2 ≡ 1 → IsAlone me.0 → ⊥
   pub got : n % 2 ≡ 0 → after ≡ (holding_view n me.0, (0, Some (front_at lists me.0 (n / 2))) ∷ me.1)
-
   pub drawn : n % 2 ≡ 0 → n / 2 ≤ length (answers_of lists me.0)
       × (IsAlone me.0 → n / 2 ≤ next_number me.0.seat.last)
   pub batch : IsBatch me.0.start (answers_of lists me.0)
@@ -140,11 +139,16 @@ abbrev pub child_view : View → View
 child_view view = record {
   seat = child_of view.seat;
   held = 0;
-  spare = 0; merged = 1; points = 0;
-  which = view.which; start = view.start;
+  spare = 0;
+  merged = 1;
+  points = 0;
+  which = view.which;
+  start = view.start;
   announced = false;
   steps = 0;
-  tried = no_note; glanced = no_note; looked = no_note;
+  tried = no_note;
+  glanced = no_note;
+  looked = no_note;
 }
 
 -- Join: what the pass knows after, and what is left of the other
@@ -160,7 +164,8 @@ joined_view view other = record view {
 -- a front that says nothing
 abbrev pub no_front : Front
 no_front = record {
-  total = 0; test = record { min = 0; z = 0; error = 0 };
+  total = 0;
+  test = record { min = 0; z = 0; error = 0 };
   sums = record { n = 0; s1 = 0; s2 = 0 };
   ending = Going;
 }
@@ -169,9 +174,14 @@ abbrev pub spent_view : View
 spent_view = record {
   seat = unmade;
   held = 0;
-  spare = 0; merged = 0; points = 0;
-  which = 0; start = no_front;
+  spare = 0;
+  merged = 0;
+  points = 0;
+  which = 0;
+  start = no_front;
   announced = false;
   steps = 0;
-  tried = no_note; glanced = no_note; looked = no_note;
+  tried = no_note;
+  glanced = no_note;
+  looked = no_note;
 }

@@ -4,9 +4,11 @@ ghost use Rattle.ordered_fold.specs.Batch.{fold_from, folded_number, IsBatch};
 ghost use Rattle.claim_table.specs.Board.{list_at, first_view, IsAlone};
 ghost use Rattle.claim_table.specs.Steps.{answers_of, reported_view, parent_view, child_view, joined_view};
 ghost use Rattle.claim_table.specs.Shown.{IsPassOf};
-ghost use Rattle.claim_table.specs.Calls.{Draws, Ends};
+ghost use Rattle.claim_table.specs.Calls.{Advances, Draws, Ends};
 
+use crate::advance::Advance;
 use crate::claim::Claim;
+use crate::folding::{announce_end, fold_cells, put_front, take_front};
 use crate::pass::Pass;
 use crate::plays::{Claims, Joins, Looks, Reports, Splits};
 use crate::rule::{BoardTable, Key, Listed};
@@ -22,7 +24,7 @@ use std::marker::{Model, PhantomData};
 #[derive(Drop)]
 pub struct Board<L: Listed> {
     pub(crate) table: BoardTable<L>,
-    which: u32,
+    pub(crate) which: u32,
     pub(crate) size: u32,
     pub(crate) start: Front,
 }
@@ -33,17 +35,17 @@ impl<L: Listed> Model for Board<L> {
     ghost Value = { BoardShown };
 
     ghost view = { λ b. record {
-        table = b.table.shared.table_id;
-        which = b.which;
-        size = b.size;
-        start = b.start;
+      table = b.table.shared.table_id;
+      which = b.which;
+      size = b.size;
+      start = b.start;
     } };
 
     ghost invariant = { λ b. IsSoundBoard L.lists b.table.shared.key (record {
-        table = b.table.shared.table_id;
-        which = b.which;
-        size = b.size;
-        start = b.start;
+      table = b.table.shared.table_id;
+      which = b.which;
+      size = b.size;
+      start = b.start;
     }) };
 }
 
@@ -136,6 +138,27 @@ impl<L: Listed> Board<L> {
                 .swap::<Reports<L>>(&mut pass.seat, place, word);
             pass.hand = None;
         }
+    }
+
+    /// Folds the cells that are full, in order, where no other pass has the front: it takes the front, goes
+    /// on to the first empty cell or the end, announces the end once, and gives the front back.
+    pub fn advance(&self, pass: &mut Pass<L>) -> Advance
+        requires pass { IsPassOf self.now pass.old }
+        requires hand { pass.old.view.seat.hand ≡ None }
+        ensures advances { Advances L.lists pass.old.view pass.new.view result }
+        ensures pass { (pass.new.table ≡ pass.old.table) × (pass.new.id ≡ pass.old.id) }
+    {
+        let first = self.start.count();
+        let words = &self.table.shared;
+        let front = match take_front(words, &mut pass.seat) {
+            Ok(front) => front,
+            Err(found) => return Advance::Busy { found },
+        };
+        let front = fold_cells(words, &mut pass.seat, front, first, self.size);
+        pass.announced = announce_end(words, &mut pass.seat, &front, pass.announced);
+        let ending = front.ending();
+        put_front(words, &mut pass.seat, front, first);
+        Advance::Moved(ending)
     }
 
     /// Looks whether an end was announced: one load. The count of answers before the end, where it was.

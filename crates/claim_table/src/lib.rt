@@ -5,6 +5,7 @@
 mod advance;
 mod board;
 mod claim;
+mod closing;
 mod folding;
 mod pass;
 mod plays;

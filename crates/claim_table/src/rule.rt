@@ -1,8 +1,7 @@
+use atomic_table::{Table, TableRule};
 use ordered_fold::{Front, Seat};
 use std::alloc::Global;
 use std::marker::{Brand, PhantomData};
-
-use atomic_table::{Table, TableRule};
 
 /// Whoever runs a board picks a list of lists of answers, which contracts alone see: each board reports
 /// the answers of one of them.

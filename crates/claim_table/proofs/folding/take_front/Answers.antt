@@ -15,5 +15,5 @@ fetch_or-found-requires g c =
 pub exchange-requires : goal.exchange-requires
 exchange-requires g c =
     let slot = taken_slot g.L.Listed.lists c.args.seat.now.me c.fetch_or-found.new.seat.me c.fetch_or-found.result c.requires.idle
-        c.fetch_or-found.ensures.2 (even_of c.fetch_or-found.result c.if-found-eq1.false) in
+    c.fetch_or-found.ensures.2 (even_of c.fetch_or-found.result c.if-found-eq1.false) in
     (search rules, (Some (front_at g.L.Listed.lists c.args.seat.now.me.0 (c.fetch_or-found.result / 2)), slot ∙ ap (λ l. (0, Some (front_at g.L.Listed.lists c.args.seat.now.me.0 (c.fetch_or-found.result / 2))) ∷ rest l) (sym slot)))

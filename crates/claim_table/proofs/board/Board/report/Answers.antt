@@ -10,9 +10,11 @@ swap-requires g c =
     let size = subst (λ (b : BoardShown). b.size ≡ length (list_at g.L.Listed.lists b.which)) c.self.view_is c.self.invariant.size in
     let hand = c.pass.invariant.hand_is ∙ c.in-Some.is in
     let is = ready g.L.Listed.lists c.args.self.now c.args.pass.now c.pass.inside.seat.me c.in-Some.point c.args.answer
-        c.requires.pass (ap (λ p. p.view) c.pass.view_is) size hand c.requires.hand in
-    let same = ap (λ (b : BoardShown). b.size) c.self.view_is in
-    (search rules, omega (arith, is.below, c.self.invariant.words, same),
-    rw c.code-word.ensures.value
-    (reports g.L.Listed.lists _ _ _ c.pass.inside.seat.me c.in-Some.point c.args.answer
-        c.pass.invariant.live hand c.pass.invariant.free is.answer_is))
+    c.requires.pass (ap (λ p. p.view) c.pass.view_is) size hand c.requires.hand in
+    let same = ap (λ (b : BoardShown). b.size) c.self.view_is in (
+      search rules,
+      omega (arith, is.below, c.self.invariant.words, same),
+      rw c.code-word.ensures.value
+          (reports g.L.Listed.lists _ _ _ c.pass.inside.seat.me c.in-Some.point c.args.answer
+          c.pass.invariant.live hand c.pass.invariant.free is.answer_is),
+    )
