@@ -1,6 +1,8 @@
-ghost use Rattle.std.specs.Prelude.{◌≡◌, ◌≢◌, ◌⊎◌, ◌<◌, ◌≤◌, ℕ, true, false, Some, None, length, slice_get, IfOk};
+ghost use Rattle.std.specs.Prelude.{◌≡◌, ◌≢◌, ◌⊎◌, ◌<◌, ◌≤◌, ℕ, true, false, Some, None, length, slice_get, All, IfOk};
 ghost use Rattle.ordered_fold.specs.Machine.{later as later_of};
-ghost use Rattle.ordered_fold.specs.Batch.{fold_from, folded_number, IsBatch};
+ghost use Rattle.ordered_fold.specs.Batch.{IsHeldAnswer, IsBatch};
+ghost use Rattle.ordered_fold.specs.Front.{first_front};
+ghost use Rattle.confidence.specs.Confidence.{IsInRange};
 ghost use Rattle.claim_table.specs.Board.{list_at, first_view, IsAlone};
 ghost use Rattle.claim_table.specs.Steps.{answers_of, reported_view, parent_view, child_view, joined_view};
 ghost use Rattle.claim_table.specs.Shown.{IsPassOf};
@@ -50,6 +52,26 @@ impl<L: Listed> Model for Board<L> {
 }
 
 impl<L: Listed> Board<L> {
+    /// A board for the fold of all answers of a list, and its first pass.
+    pub fn new(
+        alloc: Global,
+        which: u32,
+        total: u32,
+        test: Test,
+    ) -> Result<(Board<L>, Pass<L>), NoMemory>
+        requires listed { total ≡ length (list_at L.lists which) }
+        requires some { 0 < total }
+        requires most { total ≤ 65536 }
+        requires held { All IsHeldAnswer (list_at L.lists which) }
+        requires test { IsInRange test }
+        ensures board { IfOk result (λ r. (r.0.which ≡ which) × (r.0.size ≡ total)
+            × (r.0.start ≡ first_front total test)) }
+        ensures pass { IfOk result (λ r. IsPassOf r.0 r.1
+            × (r.1.view ≡ first_view (record { which = which; start = first_front total test }))) }
+    {
+        Board::resume(alloc, which, Front::new(total, test), total)
+    }
+
     /// A board for the fold of a batch of `size` answers from a front on, and its first pass.
     pub fn resume(
         alloc: Global,
