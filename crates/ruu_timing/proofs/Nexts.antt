@@ -10,7 +10,7 @@ use Rattle.hierarchy.specs.declared.widths.Widths.{Widths}
 use Rattle.rv_isa.specs.declared.roles.Class.{Class}
 use Rattle.smarts_base.specs.Least.{IsLeast}
 use Rattle.ruu_timing.specs.Class.{is_ecall, is_load}
-use Rattle.ruu_timing.specs.Rows.{AreTimed, IsRetiredAfter, IsWithin, last_of}
+use Rattle.ruu_timing.specs.Timed.{AreTimed, IsRetiredAfter, IsWithin, last_of}
 use Rattle.ruu_timing.specs.Times.{accesses, back, dispatch_of, fetch_of, issue_of, memory_ones, next_fetch, ready_of, retirement_of, stored, stores_to, time_of, timed_after, timed_of, writes, written}
 use Rattle.ruu_timing.specs.declared.timed.Timed.{Timed}
 use Rattle.ruu_timing.proofs.Bounds.{retired, retired_in_order, within_more}

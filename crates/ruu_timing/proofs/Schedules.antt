@@ -9,7 +9,7 @@ use Rattle.hierarchy.specs.declared.marked.Marked.{Marked}
 use Rattle.hierarchy.specs.declared.widths.Widths.{Widths}
 use Rattle.ruu_timing.specs.Class.{is_load}
 use Rattle.ruu_timing.specs.Laws.{IsFirst}
-use Rattle.ruu_timing.specs.Rows.{AreTimed}
+use Rattle.ruu_timing.specs.Timed.{AreTimed}
 use Rattle.ruu_timing.specs.Schedule.{IsSchedule, ago, begin_at, completion_of, dispatch_at, has_place, next_at, nothing, ready_at, retirement_at, store_of, timed_at, writer_of}
 use Rattle.ruu_timing.specs.Times.{back, dispatch_of, fetch_of, has_slot, issue_of, issues_alike, issues_at, next_fetch, ready_of, retirement_of, stored, stores_to, time_of, timed_after, timed_of, times, writes, written}
 use Rattle.ruu_timing.specs.declared.timed.Timed.{Timed}

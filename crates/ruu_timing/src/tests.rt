@@ -4,13 +4,17 @@ ghost use Rattle.hierarchy.specs.Widths.{AreWidths};
 ghost use Rattle.hierarchy.specs.Marked.{IsMarked};
 ghost use Rattle.ruu_timing.specs.Trace.{IsTrace};
 
+mod earlier;
 mod generated;
+mod plain;
+mod rows;
 mod rules;
 
 use crate::class::accesses_memory;
-use crate::rows::Rows;
-use crate::{PlainRuu, Ruu, SliceTrace, Trace, scalar_time};
+use crate::{Ruu, SliceTrace, Trace, scalar_time};
 use hierarchy::{Latencies, Marked, Widths};
+use plain::PlainRuu;
+use rows::Rows;
 use rv_isa::Class;
 use std::alloc::Global;
 use std::test::Fail;

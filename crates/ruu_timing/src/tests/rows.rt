@@ -2,11 +2,11 @@ ghost use Rattle.std.specs.Prelude.{◌≡◌, ◌+◌, ◌^◌, ◌<◌, ◌≤
 ghost use Rattle.std.specs.List.{find, slice_get};
 ghost use Rattle.hierarchy.specs.Widths.{AreWidths};
 ghost use Rattle.hierarchy.specs.Marked.{IsMarked};
-ghost use Rattle.ruu_timing.specs.Rows.{IsWithin, AreTimed};
+ghost use Rattle.ruu_timing.specs.Timed.{IsWithin, AreTimed};
 ghost use Rattle.ruu_timing.specs.Times.{back, time_of, next_fetch, fetch_of, dispatch_of, memory_ones, writes, stores_to, written, stored, ready_of, issue_of, retirement_of, timed_of, times};
 
 use crate::class::{accesses_memory, is_ecall, is_load};
-use crate::earlier::{access_before, back, first_slot, last_store, last_writer};
+use crate::tests::earlier::{access_before, back, first_slot, last_store, last_writer};
 use crate::timed::Timed;
 use crate::trace::Trace;
 use hierarchy::{Marked, Widths};
@@ -52,7 +52,7 @@ pub(crate) struct Rows {
 impl Model for Rows {
     ghost use Rattle.std.specs.Prelude.{◌≤◌, List, vec_capacity, reverse};
     ghost use Rattle.ruu_timing.specs.declared.timed.Timed.{Timed as TimedValue};
-    ghost use Rattle.ruu_timing.specs.Rows.{AreTimed};
+    ghost use Rattle.ruu_timing.specs.Timed.{AreTimed};
 
     ghost Value = { List TimedValue };
 
