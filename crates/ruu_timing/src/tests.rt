@@ -163,6 +163,9 @@ fn is_trace(items: &[Marked], skip: usize) -> bool
     skip < items.len() && items.len() <= 110_000 && are_marked(items)
 }
 
+/// Takes types that may go from one thread to another.
+fn is_sent<T: Send>(_: &T) {}
+
 /// The cycles from `skip` on.
 fn cycles(alloc: Global, widths: &Widths, items: &[Marked], skip: usize) -> Result<u64, Fail> {
     if !are_widths(widths) || !is_trace(items, skip) {
@@ -278,6 +281,7 @@ fn forgets_the_trace_before(rt: HostRuntime) -> Result<(), Fail> {
         return Err(Fail::from("no such trace"));
     }
     let mut ruu = Ruu::new(rt.alloc(), &WIDTHS)?;
+    is_sent(&ruu);
     let trace = SliceTrace {
         items: IDLE.as_slice(),
     };
