@@ -2,7 +2,7 @@
 use Rattle.std.proofs.Common.{Bor, List, Option, arith, length, option_copied, refl, suc, zero, ℕ, ◌≡◌, ◌+◌, ◌*◌, ◌^◌, ◌<◌, ◌≤◌, [], ◌∷◌}
 use Rattle.std.specs.List.{slice_get}
 use Rattle.std.specs.Option.{IfSome}
-use Rattle.ruu_timing.specs.Rows.{AreInOrder, AreTimed, Each, IsWithin, last_of}
+use Rattle.ruu_timing.specs.Timed.{AreInOrder, AreTimed, Each, IsWithin, last_of}
 use Rattle.ruu_timing.specs.Times.{time_of}
 use Rattle.ruu_timing.specs.declared.timed.Timed.{Timed}
 use Rattle.ruu_timing.proofs.Elements.{each_get, each_more, lent}

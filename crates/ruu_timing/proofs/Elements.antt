@@ -2,7 +2,7 @@
 use Rattle.std.proofs.Common.{All, Bool, Bor, List, None, Option, Some, arith, cond, false, filter, length, option_copied, refl, subst, suc, sym, take, true, zero, ℕ, ◌≡◌, ◌≤◌, [], ◌∷◌}
 use Rattle.std.specs.List.{find, slice_get}
 use Rattle.std.specs.Option.{IfSome}
-use Rattle.ruu_timing.specs.Rows.{Each}
+use Rattle.ruu_timing.specs.Timed.{Each}
 
 -- what holds of each holds of those that are found, picked or left
 pub each_get : {X : Type 0} (P : X → Type 0) (xs : List X) (i : ℕ) → Each P xs → IfSome (slice_get xs i) P

@@ -10,8 +10,8 @@ use Rattle.hierarchy.specs.declared.widths.Widths.{Widths}
 use Rattle.rv_isa.specs.declared.roles.Class.{Class}
 use Rattle.smarts_base.specs.Least.{IsLeast}
 use Rattle.ruu_timing.specs.Class.{is_ecall, is_load}
-use Rattle.ruu_timing.specs.Rows.{AreTimed, IsRetiredAfter, IsWithin, last_of}
-use Rattle.ruu_timing.specs.Times.{accesses, back, dispatch_of, fetch_of, issue_of, memory_ones, next_fetch, ready_of, retirement_of, stored, stores_to, time_of, timed_after, timed_of, writes, written}
+use Rattle.ruu_timing.specs.Timed.{AreTimed, IsRetiredAfter, IsWithin, last_of}
+use Rattle.ruu_timing.specs.Times.{accesses, back, dispatch_of, fetch_of, issue_of, memory_ones, next_fetch, ready_of, retirement_of, word_time, stores_to, time_of, timed_after, timed_of, writes, register_time}
 use Rattle.ruu_timing.specs.declared.timed.Timed.{Timed}
 use Rattle.ruu_timing.proofs.Bounds.{retired, retired_in_order, within_more}
 use Rattle.ruu_timing.proofs.Choices.{either_le}
@@ -84,15 +84,15 @@ dispatch_soon w earlier m fetch timed =
     either_le (is_ecall m.class) last 0 last (omega arith) (omega arith) in
     record { after = omega arith; soon = omega arith }
 
-pub written_le : (earlier : List Timed) (register : Option ℕ) → AreTimed earlier → written earlier register ≤ last_of earlier
-written_le earlier None timed = omega arith
-written_le earlier (Some register) timed =
+pub register_time_le : (earlier : List Timed) (register : Option ℕ) → AreTimed earlier → register_time earlier register ≤ last_of earlier
+register_time_le earlier None timed = omega arith
+register_time_le earlier (Some register) timed =
     time_le (λ x. x.completion) (last_of earlier) (last_of earlier) (λ x h. omega (arith, h.completion))
     (find (λ x. writes register x) earlier) (each_find (IsWithin (last_of earlier)) (writes register) earlier timed.each)
 
-stored_le : (earlier : List Timed) (word : Option ℕ) → AreTimed earlier → stored earlier word ≤ last_of earlier
-stored_le earlier None timed = omega arith
-stored_le earlier (Some word) timed =
+word_time_le : (earlier : List Timed) (word : Option ℕ) → AreTimed earlier → word_time earlier word ≤ last_of earlier
+word_time_le earlier None timed = omega arith
+word_time_le earlier (Some word) timed =
     time_le (λ x. x.completion) (last_of earlier) (last_of earlier) (λ x h. omega (arith, h.completion))
     (find (λ x. stores_to word x) earlier) (each_find (IsWithin (last_of earlier)) (stores_to word) earlier timed.each)
 
@@ -101,10 +101,10 @@ pub ready_soon :
     → IsDispatch earlier dispatch (ready_of earlier m dispatch)
 unfolding ready_of
 ready_soon earlier m dispatch timed =
-    let memory : (if is_load m.class then stored earlier m.word else 0) ≤ last_of earlier =
-    either_le (is_load m.class) (stored earlier m.word) 0 (last_of earlier) (stored_le earlier m.word timed) (omega arith) in
-    let first : written earlier m.first ≤ last_of earlier = written_le earlier m.first timed in
-    let second : written earlier m.second ≤ last_of earlier = written_le earlier m.second timed in
+    let memory : (if is_load m.class then word_time earlier m.word else 0) ≤ last_of earlier =
+    either_le (is_load m.class) (word_time earlier m.word) 0 (last_of earlier) (word_time_le earlier m.word timed) (omega arith) in
+    let first : register_time earlier m.first ≤ last_of earlier = register_time_le earlier m.first timed in
+    let second : register_time earlier m.second ≤ last_of earlier = register_time_le earlier m.second timed in
     record { after = omega arith; soon = omega arith }
 
 pub issue_is :

@@ -9,9 +9,9 @@ use Rattle.hierarchy.specs.declared.marked.Marked.{Marked}
 use Rattle.hierarchy.specs.declared.widths.Widths.{Widths}
 use Rattle.ruu_timing.specs.Class.{is_load}
 use Rattle.ruu_timing.specs.Laws.{IsFirst}
-use Rattle.ruu_timing.specs.Rows.{AreTimed}
+use Rattle.ruu_timing.specs.Timed.{AreTimed}
 use Rattle.ruu_timing.specs.Schedule.{IsSchedule, ago, begin_at, completion_of, dispatch_at, has_place, next_at, nothing, ready_at, retirement_at, store_of, timed_at, writer_of}
-use Rattle.ruu_timing.specs.Times.{back, dispatch_of, fetch_of, has_slot, issue_of, issues_alike, issues_at, next_fetch, ready_of, retirement_of, stored, stores_to, time_of, timed_after, timed_of, times, writes, written}
+use Rattle.ruu_timing.specs.Times.{back, dispatch_of, fetch_of, has_slot, issue_of, issues_alike, issues_at, next_fetch, ready_of, retirement_of, word_time, stores_to, time_of, timed_after, timed_of, times, writes, register_time}
 use Rattle.ruu_timing.specs.declared.timed.Timed.{Timed}
 use Rattle.ruu_timing.proofs.Bounds.{small}
 use Rattle.ruu_timing.proofs.Elements.{each_of, each_take}
@@ -73,18 +73,18 @@ fetch_is w x i m widths =
     ) refl
 
 written_is :
-    (x : ℕ → Timed) (i : ℕ) (r : Option ℕ) → written (listed x i) r ≡ completion_of x (writer_of x i r)
+    (x : ℕ → Timed) (i : ℕ) (r : Option ℕ) → register_time (listed x i) r ≡ completion_of x (writer_of x i r)
 written_is x i None = refl
 written_is x i (Some r) = found_last x (λ y. writes r y) i
 
 stored_is :
-    (x : ℕ → Timed) (i : ℕ) (word : Option ℕ) → stored (listed x i) word ≡ completion_of x (store_of x i word)
+    (x : ℕ → Timed) (i : ℕ) (word : Option ℕ) → word_time (listed x i) word ≡ completion_of x (store_of x i word)
 stored_is x i None = refl
 stored_is x i (Some word) = found_last x (λ y. stores_to word y) i
 
 awaited_is :
     (x : ℕ → Timed) (i : ℕ) (b : Bool) (word : Option ℕ)
-    → (if b then stored (listed x i) word else 0) ≡ completion_of x (if b then store_of x i word else 0)
+    → (if b then word_time (listed x i) word else 0) ≡ completion_of x (if b then store_of x i word else 0)
 awaited_is x i true word = stored_is x i word
 awaited_is x i false word = refl
 

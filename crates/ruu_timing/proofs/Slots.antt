@@ -10,7 +10,7 @@ use Rattle.smarts_base.proofs.Leasts.{least_below_is, least_below_some}
 use Rattle.smarts_base.specs.Least.{IsLeast, IsLeastIfAny, least_below}
 use Rattle.ruu_timing.specs.Class.{limit_of}
 use Rattle.ruu_timing.specs.Laws.{IsFirst}
-use Rattle.ruu_timing.specs.Rows.{AreTimed, Each, IsWithin, last_of}
+use Rattle.ruu_timing.specs.Timed.{AreTimed, Each, IsWithin, last_of}
 use Rattle.ruu_timing.specs.Times.{has_slot, issue_of, issues_alike, issues_at}
 use Rattle.ruu_timing.specs.declared.timed.Timed.{Timed}
 use Rattle.ruu_timing.proofs.Elements.{filter_none}

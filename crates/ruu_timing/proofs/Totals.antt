@@ -1,15 +1,17 @@
 -- The times of the first instructions of a trace, and the cycles between two of them.
-use Rattle.std.proofs.Common.{All, List, Some, ap, arith, drop, length, refl, subst, suc, sym, take, ℕ, ◌≡◌, ◌+◌, ◌-◌, ◌*◌, ◌^◌, ◌<◌, ◌≤◌, [], ◌∷◌, ◌++◌, ◌∙◌}
+use Rattle.std.proofs.Common.{All, List, Some, ap, arith, drop, inl, inr, length, refl, subst, suc, sym, take, ℕ, ◌≡◌, ◌+◌, ◌-◌, ◌*◌, ◌^◌, ◌<◌, ◌≤◌, [], ◌∷◌, ◌++◌, ◌∙◌}
+use Rattle.rv_isa.specs.declared.roles.Class.{Class}
+use Rattle.std.proofs.lemmas.Bool.{cases_lt}
 use Rattle.std.proofs.lemmas.List.{length-drop, length-take-le, take-append-drop, take_all, take_more}
-use Rattle.std.proofs.lemmas.List.Elements.{All-get_or}
+use Rattle.std.proofs.lemmas.List.Elements.{All-get_or, All-take}
 use Rattle.std.proofs.lemmas.Option.{get_or_from_slice_get, slice_get_within}
 use Rattle.std.specs.List.{slice_get}
 use Rattle.hierarchy.specs.Marked.{IsMarked}
 use Rattle.hierarchy.specs.Widths.{AreWidths}
 use Rattle.hierarchy.specs.declared.marked.Marked.{Marked}
 use Rattle.hierarchy.specs.declared.widths.Widths.{Widths}
-use Rattle.ruu_timing.specs.Laws.{IssuesAtFirst}
-use Rattle.ruu_timing.specs.Rows.{AreTimed, Each}
+use Rattle.ruu_timing.specs.Laws.{IssuesAtFirst, IssueFirst}
+use Rattle.ruu_timing.specs.Timed.{AreTimed, Each}
 use Rattle.ruu_timing.specs.Times.{back, cycles, issue_of, time_of, timed_after, timed_of, times}
 use Rattle.ruu_timing.specs.declared.timed.Timed.{Timed}
 use Rattle.ruu_timing.proofs.Bounds.{retired, retired_in_order, retired_soon, retired_wide}
@@ -82,6 +84,20 @@ issues_at_first w ms class ready widths few marks =
     let timed : AreTimed (times w ms) = after_timed w [] ms widths none (omega arith) (each_of IsMarked ms marks) in
     first_slot_is w (times w ms) class ready (issue_of w (times w ms) class ready)
     (issue_is_least w (times w ms) class ready widths timed)
+
+few_taken : (ms : List Marked) (n : ℕ) → length ms ≤ 110000 → length (take n ms) ≤ 110000
+few_taken ms n few = elim (cases_lt (length ms) n) [
+  | inl past ↦ let all : take n ms ≡ ms = take_all n ms (omega arith) in rw all few
+  | inr within ↦ let count : length (take n ms) ≡ n = length-take-le n ms within in omega arith
+]
+
+-- so each instruction of a trace does
+pub issue_first :
+    (w : Widths) (ms : List Marked) → AreWidths w → length ms ≤ 110000 → All IsMarked ms
+    → IssueFirst w ms
+issue_first w ms widths few marks place class ready =
+    issues_at_first w (take place ms) class ready widths (few_taken ms place few)
+    (All-take IsMarked place ms marks)
 
 -- the times of the first ones stand behind those of the others
 after_both :

@@ -6,7 +6,7 @@ use Rattle.hierarchy.specs.Widths.{AreWidths}
 use Rattle.hierarchy.specs.declared.marked.Marked.{Marked}
 use Rattle.hierarchy.specs.declared.widths.Widths.{Widths}
 use Rattle.ruu_timing.specs.Pipeline.{IsCount, IsDone, IsEmpty, IsHeld, IsSized}
-use Rattle.ruu_timing.specs.Rows.{AreTimed}
+use Rattle.ruu_timing.specs.Timed.{AreTimed}
 use Rattle.ruu_timing.specs.Schedule.{retirement_of, timed_at}
 use Rattle.ruu_timing.specs.Times.{times}
 use Rattle.ruu_timing.specs.declared.pipeline.Pipeline.{Pipeline}

@@ -1,5 +1,5 @@
 -- What holds of the times of every trace.
-use Rattle.std.specs.Prelude.{◌≡◌, ◌<◌, ◌≤◌, ℕ, Bool, List, length, All, true, false}
+use Rattle.std.specs.Prelude.{◌≡◌, ◌<◌, ◌≤◌, ℕ, Bool, List, length, take, All, true, false}
 use Rattle.rv_isa.specs.declared.roles.Class.{Class}
 use Rattle.hierarchy.specs.declared.marked.Marked.{Marked}
 use Rattle.hierarchy.specs.declared.widths.Widths.{Widths}
@@ -19,3 +19,11 @@ IssuesAtFirst =
     (w : Widths) (ms : List Marked) (class : Class) (ready : ℕ)
     → AreWidths w → length ms ≤ 110000 → All IsMarked ms
     → IsFirst (has_slot w (times w ms) class) ready (issue_of w (times w ms) class ready)
+
+-- each instruction of a trace issues in the first cycle, from when it is ready, that has a slot for
+-- it behind the instructions before it
+abbrev pub IssueFirst : Widths → List Marked → Type 0
+IssueFirst w ms =
+    (place : ℕ) (class : Class) (ready : ℕ)
+    → IsFirst (has_slot w (times w (take place ms)) class) ready
+    (issue_of w (times w (take place ms)) class ready)

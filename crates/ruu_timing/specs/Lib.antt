@@ -1,6 +1,6 @@
 pub mod Class
 pub mod Times
-pub mod Rows
+pub mod Timed
 pub mod Laws
 pub mod Trace
 pub mod Scalar

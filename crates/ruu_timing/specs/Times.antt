@@ -71,22 +71,22 @@ abbrev pub stores_to : ℕ → Timed → Bool
 stores_to word x = is_store x.mark.class && is_given x.mark.word word
 
 -- when the last writer of a register has completed
-abbrev pub written : List Timed → Option ℕ → ℕ
-written earlier None = 0
-written earlier (Some register) =
+abbrev pub register_time : List Timed → Option ℕ → ℕ
+register_time earlier None = 0
+register_time earlier (Some register) =
     time_of (λ x. x.completion) (find (λ x. writes register x) earlier)
 
 -- when the last store to a word has completed
-abbrev pub stored : List Timed → Option ℕ → ℕ
-stored earlier None = 0
-stored earlier (Some word) =
+abbrev pub word_time : List Timed → Option ℕ → ℕ
+word_time earlier None = 0
+word_time earlier (Some word) =
     time_of (λ x. x.completion) (find (λ x. stores_to word x) earlier)
 
 -- when an instruction's registers and, of a load, the word in memory are there, after the dispatch
 unfoldable pub ready_of : List Timed → Marked → ℕ → ℕ
 ready_of earlier m dispatch =
-    max (max (dispatch + 1) (if is_load m.class then stored earlier m.word else 0))
-    (max (written earlier m.first) (written earlier m.second))
+    max (max (dispatch + 1) (if is_load m.class then word_time earlier m.word else 0))
+    (max (register_time earlier m.first) (register_time earlier m.second))
 
 -- whether it issues in a cycle
 abbrev pub issues_at : ℕ → Timed → Bool

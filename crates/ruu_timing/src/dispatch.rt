@@ -32,7 +32,7 @@ fn latest_store(accesses: &HeapCircularBuffer<Access>, word: u32) -> Option<&Acc
 }
 
 /// When the latest of these that stores to a word completes.
-fn stored(accesses: &HeapCircularBuffer<Access>, word: Option<u32>) -> u64
+fn word_time(accesses: &HeapCircularBuffer<Access>, word: Option<u32>) -> u64
     ensures { result ≡ stored_in accesses.now.items word }
 {
     let Some(word) = word else { return 0 };
@@ -43,7 +43,7 @@ fn stored(accesses: &HeapCircularBuffer<Access>, word: Option<u32>) -> u64
 }
 
 /// When the last instruction that writes a register completes.
-fn written(writers: &[u64], register: Option<u8>) -> u64
+fn register_time(writers: &[u64], register: Option<u8>) -> u64
     requires { length writers.now ≡ 256 }
     ensures completion { result ≡ written_in writers.now register }
     ensures register { IsRegister register }
@@ -81,10 +81,10 @@ impl Pipeline {
         ensures first { IsRegister mark.now.first }
         ensures second { IsRegister mark.now.second }
     {
-        let first = written(&self.writers, mark.first);
-        let second = written(&self.writers, mark.second);
+        let first = register_time(&self.writers, mark.first);
+        let second = register_time(&self.writers, mark.second);
         let store = if is_load(mark.class) {
-            stored(&self.accesses, mark.word)
+            word_time(&self.accesses, mark.word)
         } else {
             0
         };

@@ -5,21 +5,17 @@
 mod class;
 mod cycles;
 mod dispatch;
-mod earlier;
 mod fetch;
 mod issue;
 mod laws;
 mod pipeline;
-mod plain;
 mod retire;
-mod rows;
 mod ruu;
 mod scalar;
 mod timed;
 mod trace;
 
 pub use laws::issue_law;
-pub use plain::PlainRuu;
 pub use ruu::Ruu;
 pub use scalar::{scalar_latency, scalar_time};
 pub use timed::Timed;

@@ -1,5 +1,6 @@
 ghost use Rattle.std.specs.Prelude.{◌≡◌, ◌+◌, ◌^◌, ◌<◌, ◌≤◌, length, IfOk};
 ghost use Rattle.hierarchy.specs.Widths.{AreWidths};
+ghost use Rattle.ruu_timing.specs.Laws.{IssueFirst};
 ghost use Rattle.ruu_timing.specs.Trace.{IsTrace};
 ghost use Rattle.ruu_timing.specs.Times.{cycles};
 
@@ -42,10 +43,11 @@ impl Ruu {
     }
 
     /// The cycles that a trace takes from instruction `skip` on, counted from the retirement of the
-    /// instruction before.
+    /// instruction before. Each instruction issues in the first cycle in which it can.
     pub fn time<T: Trace>(&mut self, trace: &T, skip: usize) -> u64
         requires { IsTrace (T.items trace.now) skip }
         ensures cycles { result ≡ cycles self.old (T.items trace.now) skip }
+        ensures first { IssueFirst self.old (T.items trace.now) }
         ensures least { skip + 16 ≤ length (T.items trace.now) → 1 ≤ result }
         ensures most { length (T.items trace.now) ≤ skip + 10000 → result < 2 ^ 26 }
         ensures widths { self.new ≡ self.old }

@@ -4,13 +4,17 @@ ghost use Rattle.hierarchy.specs.Widths.{AreWidths};
 ghost use Rattle.hierarchy.specs.Marked.{IsMarked};
 ghost use Rattle.ruu_timing.specs.Trace.{IsTrace};
 
+mod earlier;
 mod generated;
+mod plain;
+mod rows;
 mod rules;
 
 use crate::class::accesses_memory;
-use crate::rows::Rows;
-use crate::{PlainRuu, Ruu, SliceTrace, Trace, scalar_time};
+use crate::{Ruu, SliceTrace, Trace, scalar_time};
 use hierarchy::{Latencies, Marked, Widths};
+use plain::PlainRuu;
+use rows::Rows;
 use rv_isa::Class;
 use std::alloc::Global;
 use std::test::Fail;
@@ -159,6 +163,9 @@ fn is_trace(items: &[Marked], skip: usize) -> bool
     skip < items.len() && items.len() <= 110_000 && are_marked(items)
 }
 
+/// Takes types that may go from one thread to another.
+fn is_sent<T: Send>(_: &T) {}
+
 /// The cycles from `skip` on.
 fn cycles(alloc: Global, widths: &Widths, items: &[Marked], skip: usize) -> Result<u64, Fail> {
     if !are_widths(widths) || !is_trace(items, skip) {
@@ -274,6 +281,7 @@ fn forgets_the_trace_before(rt: HostRuntime) -> Result<(), Fail> {
         return Err(Fail::from("no such trace"));
     }
     let mut ruu = Ruu::new(rt.alloc(), &WIDTHS)?;
+    is_sent(&ruu);
     let trace = SliceTrace {
         items: IDLE.as_slice(),
     };

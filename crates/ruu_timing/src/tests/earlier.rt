@@ -1,7 +1,7 @@
 ghost use Rattle.std.specs.Prelude.{◌≡◌, ◌≤◌, ◌^◌, length, option_copied, reverse};
 ghost use Rattle.std.specs.List.{find, filter, slice_get};
 ghost use Rattle.hierarchy.specs.Widths.{AreWidths};
-ghost use Rattle.ruu_timing.specs.Rows.{AreTimed};
+ghost use Rattle.ruu_timing.specs.Timed.{AreTimed};
 ghost use Rattle.ruu_timing.specs.Times.{accesses, writes, stores_to, issues_at, issues_alike, memory_ones, back, has_slot, issue_of};
 
 use crate::class::{accesses_memory, is_same, is_store, limit_of};

@@ -3,7 +3,7 @@ ghost use Rattle.hierarchy.specs.Widths.{AreWidths};
 ghost use Rattle.ruu_timing.specs.Trace.{IsTrace};
 ghost use Rattle.ruu_timing.specs.Times.{cycles};
 
-use crate::rows::Rows;
+use crate::tests::rows::Rows;
 use crate::trace::Trace;
 use hierarchy::Widths;
 use smarts_base::NoMemory;

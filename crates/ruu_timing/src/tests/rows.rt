@@ -2,11 +2,11 @@ ghost use Rattle.std.specs.Prelude.{◌≡◌, ◌+◌, ◌^◌, ◌<◌, ◌≤
 ghost use Rattle.std.specs.List.{find, slice_get};
 ghost use Rattle.hierarchy.specs.Widths.{AreWidths};
 ghost use Rattle.hierarchy.specs.Marked.{IsMarked};
-ghost use Rattle.ruu_timing.specs.Rows.{IsWithin, AreTimed};
-ghost use Rattle.ruu_timing.specs.Times.{back, time_of, next_fetch, fetch_of, dispatch_of, memory_ones, writes, stores_to, written, stored, ready_of, issue_of, retirement_of, timed_of, times};
+ghost use Rattle.ruu_timing.specs.Timed.{IsWithin, AreTimed};
+ghost use Rattle.ruu_timing.specs.Times.{back, time_of, next_fetch, fetch_of, dispatch_of, memory_ones, writes, stores_to, register_time, word_time, ready_of, issue_of, retirement_of, timed_of, times};
 
 use crate::class::{accesses_memory, is_ecall, is_load};
-use crate::earlier::{access_before, back, first_slot, last_store, last_writer};
+use crate::tests::earlier::{access_before, back, first_slot, last_store, last_writer};
 use crate::timed::Timed;
 use crate::trace::Trace;
 use hierarchy::{Marked, Widths};
@@ -52,7 +52,7 @@ pub(crate) struct Rows {
 impl Model for Rows {
     ghost use Rattle.std.specs.Prelude.{◌≤◌, List, vec_capacity, reverse};
     ghost use Rattle.ruu_timing.specs.declared.timed.Timed.{Timed as TimedValue};
-    ghost use Rattle.ruu_timing.specs.Rows.{AreTimed};
+    ghost use Rattle.ruu_timing.specs.Timed.{AreTimed};
 
     ghost Value = { List TimedValue };
 
@@ -186,8 +186,8 @@ impl Rows {
         last_store(&self.timed, word)
     }
 
-    fn written(&self, register: Option<u8>) -> u64
-        ensures value { result ≡ written self.now register }
+    fn register_time(&self, register: Option<u8>) -> u64
+        ensures value { result ≡ register_time self.now register }
         ensures bound { result ≤ 2 ^ 33 }
     {
         let Some(register) = register else { return 0 };
@@ -197,8 +197,8 @@ impl Rows {
         }
     }
 
-    fn stored(&self, word: Option<u32>) -> u64
-        ensures value { result ≡ stored self.now word }
+    fn word_time(&self, word: Option<u32>) -> u64
+        ensures value { result ≡ word_time self.now word }
         ensures bound { result ≤ 2 ^ 33 }
     {
         let Some(word) = word else { return 0 };
@@ -215,11 +215,13 @@ impl Rows {
         ensures bound { result ≤ 2 ^ 36 }
     {
         let memory = if is_load(mark.class) {
-            self.stored(mark.word)
+            self.word_time(mark.word)
         } else {
             0
         };
-        let registers = self.written(mark.first).max(self.written(mark.second));
+        let registers = self
+            .register_time(mark.first)
+            .max(self.register_time(mark.second));
         (dispatch + 1).max(memory).max(registers)
     }
 

@@ -21,7 +21,7 @@ impl Memory for Pair {
 
     ghost sound = { λ s. Unit {0} };
 
-    #[tactic(auto, using(crate::proofs::Tests::MemoriesLemmas::word_at_two))]
+    #[tactic(auto, using(crate::proofs::TestsLemmas::word_at_two))]
     fn load_word(&self, addr: u32) -> Option<u32> {
         if addr == self.code_at {
             return Some(self.code);
@@ -32,7 +32,7 @@ impl Memory for Pair {
         None
     }
 
-    #[tactic(auto, using(crate::proofs::Tests::MemoriesLemmas::word_at_two, crate::proofs::Tests::MemoriesLemmas::store_first, crate::proofs::Tests::MemoriesLemmas::store_second))]
+    #[tactic(auto, using(crate::proofs::TestsLemmas::word_at_two, crate::proofs::TestsLemmas::store_first, crate::proofs::TestsLemmas::store_second))]
     fn store_word(&mut self, addr: u32, value: u32) -> bool {
         if addr == self.code_at {
             self.code = value;
@@ -64,7 +64,7 @@ impl Memory for Flat {
 
     ghost sound = { λ s. Unit {0} };
 
-    #[tactic(auto, using(crate::proofs::Tests::MemoriesLemmas::word_at_flat))]
+    #[tactic(auto, using(crate::proofs::TestsLemmas::word_at_flat))]
     fn load_word(&self, addr: u32) -> Option<u32> {
         let place = (addr / 4) as usize;
         if addr % 4 == 0 && place < self.words.len() {
@@ -74,7 +74,7 @@ impl Memory for Flat {
         }
     }
 
-    #[tactic(auto, using(crate::proofs::Tests::MemoriesLemmas::word_at_flat, crate::proofs::Tests::MemoriesLemmas::store_flat))]
+    #[tactic(auto, using(crate::proofs::TestsLemmas::word_at_flat, crate::proofs::TestsLemmas::store_flat))]
     fn store_word(&mut self, addr: u32, value: u32) -> bool {
         let place = (addr / 4) as usize;
         if addr % 4 == 0 && place < self.words.len() {

@@ -1,3 +1,4 @@
+use Rattle.ruu_timing.proofs.Totals.{issue_first}
 use Rattle.ruu_timing.proofs.Traces.{empty_done, held_sized, cycles_are}
 use Rattle.ruu_timing.proofs.ruu.Ruu.time.Goals as goal
 
@@ -22,3 +23,9 @@ pub returns-clause-most : goal.returns-clause-most
 returns-clause-most g c =
     (cycles_are c.self.inside.widths (g.T.Trace.items c.args.trace.now) c.args.skip c.total.result c.self.invariant.0 c.requires.few
     c.requires.marks c.requires.within c.total.ensures.total).most
+
+pub returns-clause-first : goal.returns-clause-first
+returns-clause-first g c =
+    rw (← c.self.view_is)
+    (issue_first c.self.inside.widths (g.T.Trace.items c.args.trace.now) c.self.invariant.0
+    c.requires.few c.requires.marks)

@@ -2,7 +2,7 @@ use Rattle.std.proofs.Common.{rules, tests}
 use Rattle.std.proofs.lemmas.Iterator.Consumers.{nth_from_yields_List, YieldsList-from_filter}
 use Rattle.std.proofs.lemmas.Iterator.Adapters.{YieldsList-from_rev_slice}
 use Rattle.ruu_timing.specs.Times.{accesses}
-use Rattle.ruu_timing.proofs.earlier.access_before.Goals as goal
+use Rattle.ruu_timing.proofs.tests.earlier.access_before.Goals as goal
 
 pub returns : goal.returns
 returns c =

@@ -1,7 +1,7 @@
 use Rattle.std.proofs.Common.{◌≡◌, ◌+◌, ◌≤◌, ◌∙◌, false, sym, reverse, arith}
 use Rattle.ruu_timing.specs.Times.{has_slot}
 use Rattle.ruu_timing.proofs.Slots.{free_of, none_more, before_free, issue_found}
-use Rattle.ruu_timing.proofs.earlier.first_slot.Goals as goal
+use Rattle.ruu_timing.proofs.tests.earlier.first_slot.Goals as goal
 
 pub wait-preserved : goal.wait-preserved
 wait-preserved c =

@@ -1,7 +1,7 @@
 use Rattle.std.proofs.Common.{◌≡◌, ◌+◌, ◌-◌, ◌<◌, ◌≤◌, ◌&&◌, ℕ, false, max, nat_le, reverse}
-use Rattle.ruu_timing.specs.Rows.{last_of}
+use Rattle.ruu_timing.specs.Timed.{last_of}
 use Rattle.ruu_timing.specs.Times.{has_slot}
-use Rattle.ruu_timing.proofs.earlier.first_slot.Given as goal
+use Rattle.ruu_timing.proofs.tests.earlier.first_slot.Given as goal
 
 abbrev pub invariant-wait : goal.invariant-wait
 invariant-wait l = record {

@@ -1,9 +1,9 @@
 use Rattle.std.proofs.Common.{◌^◌, reverse}
-use Rattle.ruu_timing.specs.Rows.{IsWithin, AreTimed}
+use Rattle.ruu_timing.specs.Timed.{IsWithin, AreTimed}
 use Rattle.ruu_timing.specs.Times.{accesses}
 use Rattle.ruu_timing.proofs.Bounds.{small, lent_small}
 use Rattle.ruu_timing.proofs.Elements.{each_get, each_filter}
-use Rattle.ruu_timing.proofs.rows.Rows.access_before.Goals as goal
+use Rattle.ruu_timing.proofs.tests.rows.Rows.access_before.Goals as goal
 
 pub returns-clause-within : goal.returns-clause-within
 returns-clause-within c =

@@ -1,9 +1,9 @@
 use Rattle.std.proofs.Common.{◌^◌, reverse}
-use Rattle.ruu_timing.specs.Rows.{IsWithin, AreTimed}
+use Rattle.ruu_timing.specs.Timed.{IsWithin, AreTimed}
 use Rattle.ruu_timing.specs.Times.{stores_to}
 use Rattle.ruu_timing.proofs.Bounds.{small, lent_small}
 use Rattle.ruu_timing.proofs.Elements.{each_find}
-use Rattle.ruu_timing.proofs.rows.Rows.last_store.Goals as goal
+use Rattle.ruu_timing.proofs.tests.rows.Rows.last_store.Goals as goal
 
 pub returns-clause-within : goal.returns-clause-within
 returns-clause-within c =

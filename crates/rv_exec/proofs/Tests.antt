@@ -1,2 +1,0 @@
--- Lemmas that only the tests cite.
-pub mod MemoriesLemmas
