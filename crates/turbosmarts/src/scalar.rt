@@ -1,5 +1,5 @@
 ghost use Rattle.std.specs.Prelude.{◌≡◌, false, []};
-ghost use Rattle.turbosmarts.specs.Processors.{HasSummed};
+ghost use Rattle.turbosmarts.specs.Scalar.{HasSummed};
 
 use crate::processor::Processor;
 use hierarchy::Config;
