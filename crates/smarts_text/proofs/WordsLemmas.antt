@@ -1,9 +1,12 @@
 -- The values of keys, and the first of them with a fault. A word is whatever has a text.
-use Rattle.std.proofs.Common.{◌≡◌, ◌<◌, ◌≤◌, ◌+◌, ℕ, List, Bool, true, false, length, take, drop, get_or, Some, None, refl, map, drop-cons, add-one}
+use Rattle.std.proofs.Common.{◌≡◌, ◌≢◌, ◌<◌, ◌≤◌, ◌+◌, ◌++◌, ◌∷◌, [], ◌∙◌, sym, ap, ℕ, List, Bool, true, false, length, take, drop, get_or, Some, None, refl, map, drop-cons, add-one}
 use Rattle.std.proofs.Math.ListN.{drop_of_length-le}
+use Rattle.std.proofs.lemmas.Bool.{eq-eqb, false_from_ne_true}
 use Rattle.std.proofs.lemmas.List.{length-map}
 use Rattle.std.proofs.lemmas.Option.{slice_get-map, slice_get_read}
+use Rattle.std.proofs.lemmas.Slice.Eq.{bytes_eq-Decides}
 use Rattle.std.specs.List.{slice_get, take-map}
+use Rattle.std.specs.Str.{bytes_eq}
 use Rattle.std.specs.Option.{is_some, option_or}
 use Rattle.smarts_base.specs.Least.{least_below}
 use Rattle.smarts_base.proofs.Leasts.{least_below_none, least_below_some}
@@ -60,3 +63,20 @@ none_found view words groups before =
     let test : ℕ → Bool = λ j. is_some (fault_at groups (map view words) j) in
     let least : least_below (length words) test ≡ None = least_below_none (length words) test before in
     rw (length-map words view, least) refl
+
+same_behind : (prefix a b : List ℕ) → bytes_eq (prefix ++ a) (prefix ++ b) ≡ bytes_eq a b
+same_behind [] a b = refl
+same_behind (p ∷ prefix) a b = rw (eq-eqb p p refl) (same_behind prefix a b)
+
+-- a key behind whose prefix stands a name, and one that doesn't begin with the prefix
+pub named_some :
+    (key prefix name rest : List ℕ) (r : Bool)
+    → key ≡ prefix ++ rest → r ≡ bytes_eq rest name → r ≡ bytes_eq key (prefix ++ name)
+named_some key prefix name rest r parts is =
+    is ∙ sym (same_behind prefix rest name) ∙ ap (λ (k : List ℕ). bytes_eq k (prefix ++ name)) (sym parts)
+
+pub named_none :
+    (key prefix name : List ℕ) → ((rest : List ℕ) → key ≢ prefix ++ rest)
+    → bytes_eq key (prefix ++ name) ≡ false
+named_none key prefix name lacks =
+    false_from_ne_true _ (λ e. lacks name ((bytes_eq-Decides key (prefix ++ name)).0 e))

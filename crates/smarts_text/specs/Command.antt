@@ -16,9 +16,9 @@ use Rattle.smarts_text.specs.Keys.{Key}
 -- what words ask of the command of this name, whether they are at fault or not
 unfoldable pub command_in : List ℕ → List (List ℕ) → Option Command
 command_in name words =
-    if bytes_eq name (codes "sample") then Some (Sample (design_in words) (config_in words) (test_in words))
-    else (if bytes_eq name (codes "demo") then Some (Demo (number_in words Keys.size_key) (design_in words) (config_in words) (test_in words))
-    else (if bytes_eq name (codes "run") then Some (Run (number_in words Keys.budget_key))
+    if bytes_eq name (codes "sample") then Some (Sample (design_in words) (config_in [] words) (test_in words))
+    else (if bytes_eq name (codes "demo") then Some (Demo (number_in [] words Keys.size_key) (design_in words) (config_in [] words) (test_in words))
+    else (if bytes_eq name (codes "run") then Some (Run (number_in [] words Keys.budget_key))
     else None))
 
 -- the groups whose keys the command has

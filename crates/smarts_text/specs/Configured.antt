@@ -1,4 +1,4 @@
--- The processor that accepted words ask for.
+-- The processor that accepted words ask for, by the keys with a prefix and else without.
 use Rattle.std.specs.Prelude.{ℕ, List, option_and_then}
 use Rattle.std.specs.Option.{unwrap_or}
 use Rattle.std.specs.Result.{result_ok}
@@ -15,7 +15,7 @@ use Rattle.smarts_text.specs.Asked.{number_in, is_ruu_in}
 use Rattle.smarts_text.specs.Keys as Keys
 use Rattle.smarts_text.specs.Keys.{Key}
 use Rattle.smarts_text.specs.Shapes.{cache_read, tlb_read, kind_read}
-use Rattle.smarts_text.specs.Words.{value_of}
+use Rattle.smarts_text.specs.Words.{value_under}
 
 abbrev pub shape : ℕ → ℕ → ℕ → Shape
 shape line_log sets_log ways = record { line_log = line_log; sets_log = sets_log; ways = ways }
@@ -36,68 +36,68 @@ usual_kind (Kind usual) = usual
 usual_kind form = record { scheme = Bimodal; bits = 4; target_log = 2; depth = 0 }
 
 -- the cache of a key
-unfoldable pub cache_in : List (List ℕ) → Key → Shape
-cache_in words key =
+unfoldable pub cache_in : List ℕ → List (List ℕ) → Key → Shape
+cache_in prefix words key =
     unwrap_or
-    (option_and_then (λ text. result_ok (cache_read text)) (value_of key.name words))
+    (option_and_then (λ text. result_ok (cache_read text)) (value_under prefix key.name words))
     (usual_cache key.form)
 
 -- the TLB of a key
-unfoldable pub tlb_in : List (List ℕ) → Key → Shape
-tlb_in words key =
+unfoldable pub tlb_in : List ℕ → List (List ℕ) → Key → Shape
+tlb_in prefix words key =
     unwrap_or
-    (option_and_then (λ text. result_ok (tlb_read text)) (value_of key.name words))
+    (option_and_then (λ text. result_ok (tlb_read text)) (value_under prefix key.name words))
     (usual_tlb key.form)
 
 -- the predictor of a key
-unfoldable pub kind_in : List (List ℕ) → Key → PredictorKind
-kind_in words key =
+unfoldable pub kind_in : List ℕ → List (List ℕ) → Key → PredictorKind
+kind_in prefix words key =
     unwrap_or
-    (option_and_then (λ text. result_ok (kind_read text)) (value_of key.name words))
+    (option_and_then (λ text. result_ok (kind_read text)) (value_under prefix key.name words))
     (usual_kind key.form)
 
-unfoldable pub places_in : List (List ℕ) → Places Shape
-places_in words = record {
-  l1i = cache_in words Keys.l1i_key;
-  l1d = cache_in words Keys.l1d_key;
-  l2 = cache_in words Keys.l2_key;
-  itlb = tlb_in words Keys.itlb_key;
-  dtlb = tlb_in words Keys.dtlb_key;
+unfoldable pub places_in : List ℕ → List (List ℕ) → Places Shape
+places_in prefix words = record {
+  l1i = cache_in prefix words Keys.l1i_key;
+  l1d = cache_in prefix words Keys.l1d_key;
+  l2 = cache_in prefix words Keys.l2_key;
+  itlb = tlb_in prefix words Keys.itlb_key;
+  dtlb = tlb_in prefix words Keys.dtlb_key;
 }
 
-unfoldable pub widths_in : List (List ℕ) → Widths
-widths_in words = record {
-  fetch = number_in words Keys.fetch_key;
-  dispatch = number_in words Keys.dispatch_key;
-  issue = number_in words Keys.issue_key;
-  retire = number_in words Keys.retire_key;
-  queue = number_in words Keys.queue_key;
-  ruu = number_in words Keys.ruu_key;
-  lsq = number_in words Keys.lsq_key;
-  penalty = number_in words Keys.penalty_key;
-  alus = number_in words Keys.alus_key;
-  muls = number_in words Keys.muls_key;
-  divs = number_in words Keys.divs_key;
-  loads = number_in words Keys.loads_key;
-  stores = number_in words Keys.stores_key;
-  branches = number_in words Keys.branches_key;
+unfoldable pub widths_in : List ℕ → List (List ℕ) → Widths
+widths_in prefix words = record {
+  fetch = number_in prefix words Keys.fetch_key;
+  dispatch = number_in prefix words Keys.dispatch_key;
+  issue = number_in prefix words Keys.issue_key;
+  retire = number_in prefix words Keys.retire_key;
+  queue = number_in prefix words Keys.queue_key;
+  ruu = number_in prefix words Keys.ruu_key;
+  lsq = number_in prefix words Keys.lsq_key;
+  penalty = number_in prefix words Keys.penalty_key;
+  alus = number_in prefix words Keys.alus_key;
+  muls = number_in prefix words Keys.muls_key;
+  divs = number_in prefix words Keys.divs_key;
+  loads = number_in prefix words Keys.loads_key;
+  stores = number_in prefix words Keys.stores_key;
+  branches = number_in prefix words Keys.branches_key;
 }
 
-unfoldable pub latencies_in : List (List ℕ) → Latencies
-latencies_in words = record {
-  mul = number_in words Keys.mullat_key;
-  div = number_in words Keys.divlat_key;
-  l1 = number_in words Keys.l1lat_key;
-  l2 = number_in words Keys.l2lat_key;
-  mem = number_in words Keys.memlat_key;
-  tlb = number_in words Keys.tlblat_key;
+unfoldable pub latencies_in : List ℕ → List (List ℕ) → Latencies
+latencies_in prefix words = record {
+  mul = number_in prefix words Keys.mullat_key;
+  div = number_in prefix words Keys.divlat_key;
+  l1 = number_in prefix words Keys.l1lat_key;
+  l2 = number_in prefix words Keys.l2lat_key;
+  mem = number_in prefix words Keys.memlat_key;
+  tlb = number_in prefix words Keys.tlblat_key;
 }
 
-unfoldable pub config_in : List (List ℕ) → Config
-config_in words = record {
-  ruu = is_ruu_in words;
-  places = places_in words;
-  kind = kind_in words Keys.predictor_key;
-  widths = widths_in words;
-  latencies = latencies_in words;
+unfoldable pub config_in : List ℕ → List (List ℕ) → Config
+config_in prefix words = record {
+  ruu = is_ruu_in prefix words;
+  places = places_in prefix words;
+  kind = kind_in prefix words Keys.predictor_key;
+  widths = widths_in prefix words;
+  latencies = latencies_in prefix words;
 }

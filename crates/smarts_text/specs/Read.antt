@@ -21,8 +21,8 @@ is_missing (Some key) words = is_none (value_of key.name words)
 unfoldable pub late_fault : Command → List (List ℕ) → Option WordKind
 late_fault command words =
     if is_missing (required_key command) words then Some Missing
-    else (if nat_lt (number_in words Keys.ruu_key) (number_in words Keys.lsq_key) then Some LsqOverRuu
-    else (if nat_le (number_in words Keys.every_key) (number_in words Keys.offset_key) then Some OffsetNotBelowEvery
+    else (if nat_lt (number_in [] words Keys.ruu_key) (number_in [] words Keys.lsq_key) then Some LsqOverRuu
+    else (if nat_le (number_in [] words Keys.every_key) (number_in [] words Keys.offset_key) then Some OffsetNotBelowEvery
     else None))
 
 abbrev pub refused : ℕ → WordKind → Result Command WordFault

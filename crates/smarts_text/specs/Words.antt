@@ -1,5 +1,5 @@
 -- The words after the command. Each is judged by itself and by those before it.
-use Rattle.std.specs.Prelude.{ℕ, List, [], ◌∷◌, length, take, if◌then◌else◌, Option, Some, None, option_and_then}
+use Rattle.std.specs.Prelude.{ℕ, List, [], ◌∷◌, ◌++◌, length, take, if◌then◌else◌, Option, Some, None, option_and_then}
 use Rattle.std.specs.List.{slice_get}
 use Rattle.std.specs.Option.{option_or, is_some}
 use Rattle.std.specs.Str.{bytes_eq}
@@ -27,6 +27,11 @@ value_in name word = option_and_then (value_if name) (parts_of word)
 unfoldable pub value_of : List ℕ → List (List ℕ) → Option (List ℕ)
 value_of name [] = None
 value_of name (word ∷ words) = option_or (value_in name word) (value_of name words)
+
+-- the value that they give to a key where the key may have a prefix: what they give to the key with it, and else to
+-- the key alone
+unfoldable pub value_under : List ℕ → List ℕ → List (List ℕ) → Option (List ℕ)
+value_under prefix name words = option_or (value_of (prefix ++ name) words) (value_of name words)
 
 abbrev pub fault_in : List (List ℕ) → List ℕ × List ℕ → Option Form → Option WordKind
 fault_in earlier parts None = Some UnknownKey

@@ -1,4 +1,4 @@
-ghost use Rattle.std.specs.Prelude.{◌≡◌, ◌<◌, ◌≤◌, map, option_map, string_bytes, IfSome};
+ghost use Rattle.std.specs.Prelude.{◌≡◌, ◌<◌, ◌≤◌, map, option_map, string_bytes, IfSome, []};
 ghost use Rattle.smarts_text.specs.Asked.{number_in};
 ghost use Rattle.smarts_text.specs.Command.{command_in, groups_of, required_key, IsSound};
 ghost use Rattle.smarts_text.specs.Keys as key_specs;
@@ -37,24 +37,24 @@ impl Command {
     #[tactic(auto, unfolding(crate::specs::Command::command_in, crate::specs::Asked::design_in))]
     pub(crate) fn asked_by(name: &str, words: &[String]) -> Option<Command>
         ensures value { result ≡ command_in name.now (map string_bytes words.now) }
-        ensures sound { number_in (map string_bytes words.now) key_specs.lsq_key ≤ number_in (map string_bytes words.now) key_specs.ruu_key
-            → number_in (map string_bytes words.now) key_specs.offset_key < number_in (map string_bytes words.now) key_specs.every_key
+        ensures sound { number_in [] (map string_bytes words.now) key_specs.lsq_key ≤ number_in [] (map string_bytes words.now) key_specs.ruu_key
+            → number_in [] (map string_bytes words.now) key_specs.offset_key < number_in [] (map string_bytes words.now) key_specs.every_key
             → IfSome result IsSound }
     {
         match name {
             "sample" => Some(Command::Sample {
                 design: design(words),
-                config: config(words),
+                config: config(words, ""),
                 test: test(words),
             }),
             "demo" => Some(Command::Demo {
-                size: number(words, &keys::SIZE) as u32,
+                size: number(words, "", &keys::SIZE) as u32,
                 design: design(words),
-                config: config(words),
+                config: config(words, ""),
                 test: test(words),
             }),
             "run" => Some(Command::Run {
-                budget: number(words, &keys::BUDGET),
+                budget: number(words, "", &keys::BUDGET),
             }),
             _ => None,
         }

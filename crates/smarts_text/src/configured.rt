@@ -10,7 +10,7 @@ ghost use Rattle.smarts_text.specs.Keys as key_specs;
 use crate::asked::{number, wants_ruu};
 use crate::keys::{self, Form, Key};
 use crate::shapes::{read_cache, read_kind, read_tlb};
-use crate::words::value_of;
+use crate::words::value_under;
 use hierarchy::{Config, Latencies, Places, Widths};
 use lru_plain::Geometry;
 use predictor::{PredictorKind, Scheme};
@@ -56,110 +56,110 @@ fn usual_kind(form: Form) -> PredictorKind
 
 // The cache of a key that has caches.
 #[tactic(auto, unfolding(crate::specs::Configured::cache_in))]
-fn cache(words: &[String], key: &Key) -> Geometry
+fn cache(words: &[String], prefix: &str, key: &Key) -> Geometry
     requires { IsUsual key.now.form }
-    ensures value { result ≡ cache_in (map string_bytes words.now) (key_of key.now) }
+    ensures value { result ≡ cache_in prefix.now (map string_bytes words.now) (key_of key.now) }
     ensures shape { IsCacheShape result }
 {
     let usual = usual_cache(key.form);
-    let Some(text) = value_of(key.name, words) else {
+    let Some(text) = value_under(prefix, key.name, words) else {
         return usual;
     };
     read_cache(text).unwrap_or(usual)
 }
 
 #[tactic(auto, unfolding(crate::specs::Configured::tlb_in))]
-fn tlb(words: &[String], key: &Key) -> Geometry
+fn tlb(words: &[String], prefix: &str, key: &Key) -> Geometry
     requires { IsUsual key.now.form }
-    ensures value { result ≡ tlb_in (map string_bytes words.now) (key_of key.now) }
+    ensures value { result ≡ tlb_in prefix.now (map string_bytes words.now) (key_of key.now) }
     ensures shape { IsTlbShape result }
 {
     let usual = usual_tlb(key.form);
-    let Some(text) = value_of(key.name, words) else {
+    let Some(text) = value_under(prefix, key.name, words) else {
         return usual;
     };
     read_tlb(text).unwrap_or(usual)
 }
 
 #[tactic(auto, unfolding(crate::specs::Configured::kind_in))]
-fn kind(words: &[String], key: &Key) -> PredictorKind
+fn kind(words: &[String], prefix: &str, key: &Key) -> PredictorKind
     requires { IsUsual key.now.form }
-    ensures value { result ≡ kind_in (map string_bytes words.now) (key_of key.now) }
+    ensures value { result ≡ kind_in prefix.now (map string_bytes words.now) (key_of key.now) }
     ensures kind { IsKind result }
 {
     let usual = usual_kind(key.form);
-    let Some(text) = value_of(key.name, words) else {
+    let Some(text) = value_under(prefix, key.name, words) else {
         return usual;
     };
     read_kind(text).unwrap_or(usual)
 }
 
 #[tactic(auto, unfolding(crate::specs::Configured::places_in))]
-fn places(words: &[String]) -> Places<Geometry>
-    ensures value { result ≡ places_in (map string_bytes words.now) }
+fn places(words: &[String], prefix: &str) -> Places<Geometry>
+    ensures value { result ≡ places_in prefix.now (map string_bytes words.now) }
     ensures shapes { ArePlaces result }
 {
     Places {
-        l1i: cache(words, &keys::L1I),
-        l1d: cache(words, &keys::L1D),
-        l2: cache(words, &keys::L2),
-        itlb: tlb(words, &keys::ITLB),
-        dtlb: tlb(words, &keys::DTLB),
+        l1i: cache(words, prefix, &keys::L1I),
+        l1d: cache(words, prefix, &keys::L1D),
+        l2: cache(words, prefix, &keys::L2),
+        itlb: tlb(words, prefix, &keys::ITLB),
+        dtlb: tlb(words, prefix, &keys::DTLB),
     }
 }
 
 #[tactic(auto, unfolding(crate::specs::Configured::widths_in))]
-fn widths(words: &[String]) -> Widths
-    ensures value { result ≡ widths_in (map string_bytes words.now) }
-    ensures ranges { number_in (map string_bytes words.now) key_specs.lsq_key ≤ number_in (map string_bytes words.now) key_specs.ruu_key
+fn widths(words: &[String], prefix: &str) -> Widths
+    ensures value { result ≡ widths_in prefix.now (map string_bytes words.now) }
+    ensures ranges { number_in prefix.now (map string_bytes words.now) key_specs.lsq_key ≤ number_in prefix.now (map string_bytes words.now) key_specs.ruu_key
         → AreWidths result }
 {
     Widths {
-        fetch: number(words, &keys::FETCH) as u32,
-        dispatch: number(words, &keys::DISPATCH) as u32,
-        issue: number(words, &keys::ISSUE) as u32,
-        retire: number(words, &keys::RETIRE) as u32,
-        queue: number(words, &keys::QUEUE) as u32,
-        ruu: number(words, &keys::RUU) as u32,
-        lsq: number(words, &keys::LSQ) as u32,
-        penalty: number(words, &keys::PENALTY) as u32,
-        alus: number(words, &keys::ALUS) as u32,
-        muls: number(words, &keys::MULS) as u32,
-        divs: number(words, &keys::DIVS) as u32,
-        loads: number(words, &keys::LOADS) as u32,
-        stores: number(words, &keys::STORES) as u32,
-        branches: number(words, &keys::BRANCHES) as u32,
+        fetch: number(words, prefix, &keys::FETCH) as u32,
+        dispatch: number(words, prefix, &keys::DISPATCH) as u32,
+        issue: number(words, prefix, &keys::ISSUE) as u32,
+        retire: number(words, prefix, &keys::RETIRE) as u32,
+        queue: number(words, prefix, &keys::QUEUE) as u32,
+        ruu: number(words, prefix, &keys::RUU) as u32,
+        lsq: number(words, prefix, &keys::LSQ) as u32,
+        penalty: number(words, prefix, &keys::PENALTY) as u32,
+        alus: number(words, prefix, &keys::ALUS) as u32,
+        muls: number(words, prefix, &keys::MULS) as u32,
+        divs: number(words, prefix, &keys::DIVS) as u32,
+        loads: number(words, prefix, &keys::LOADS) as u32,
+        stores: number(words, prefix, &keys::STORES) as u32,
+        branches: number(words, prefix, &keys::BRANCHES) as u32,
     }
 }
 
 #[tactic(auto, unfolding(crate::specs::Configured::latencies_in))]
-fn latencies(words: &[String]) -> Latencies
-    ensures value { result ≡ latencies_in (map string_bytes words.now) }
+fn latencies(words: &[String], prefix: &str) -> Latencies
+    ensures value { result ≡ latencies_in prefix.now (map string_bytes words.now) }
     ensures ranges { AreLatencies result }
 {
     Latencies {
-        mul: number(words, &keys::MULLAT) as u32,
-        div: number(words, &keys::DIVLAT) as u32,
-        l1: number(words, &keys::L1LAT) as u32,
-        l2: number(words, &keys::L2LAT) as u32,
-        mem: number(words, &keys::MEMLAT) as u32,
-        tlb: number(words, &keys::TLBLAT) as u32,
+        mul: number(words, prefix, &keys::MULLAT) as u32,
+        div: number(words, prefix, &keys::DIVLAT) as u32,
+        l1: number(words, prefix, &keys::L1LAT) as u32,
+        l2: number(words, prefix, &keys::L2LAT) as u32,
+        mem: number(words, prefix, &keys::MEMLAT) as u32,
+        tlb: number(words, prefix, &keys::TLBLAT) as u32,
     }
 }
 
-/// The processor that the words ask for, which can be built where the load and store queue has no more places
+/// The processor that the words ask for by the keys with the prefix and else without, which can be built where the load and store queue has no more places
 /// than the register update unit.
 #[tactic(auto, unfolding(crate::specs::Configured::config_in))]
-pub fn config(words: &[String]) -> Config
-    ensures value { result ≡ config_in (map string_bytes words.now) }
-    ensures ranges { number_in (map string_bytes words.now) key_specs.lsq_key ≤ number_in (map string_bytes words.now) key_specs.ruu_key
+pub fn config(words: &[String], prefix: &str) -> Config
+    ensures value { result ≡ config_in prefix.now (map string_bytes words.now) }
+    ensures ranges { number_in prefix.now (map string_bytes words.now) key_specs.lsq_key ≤ number_in prefix.now (map string_bytes words.now) key_specs.ruu_key
         → IsConfig result }
 {
     Config {
-        ruu: wants_ruu(words),
-        places: places(words),
-        kind: kind(words, &keys::PREDICTOR),
-        widths: widths(words),
-        latencies: latencies(words),
+        ruu: wants_ruu(words, prefix),
+        places: places(words, prefix),
+        kind: kind(words, prefix, &keys::PREDICTOR),
+        widths: widths(words, prefix),
+        latencies: latencies(words, prefix),
     }
 }

@@ -1,4 +1,4 @@
-ghost use Rattle.std.specs.Prelude.{◌≡◌, ◌<◌, ◌≤◌, ◌^◌, None, Err, map, length, string_bytes, IfOk};
+ghost use Rattle.std.specs.Prelude.{◌≡◌, ◌<◌, ◌≤◌, ◌^◌, None, Err, map, length, string_bytes, IfOk, []};
 ghost use Rattle.smarts_base.specs.Outcome.{Answers};
 ghost use Rattle.smarts_text.specs.Asked.{number_in};
 ghost use Rattle.smarts_text.specs.Command.{IsSound, required_key};
@@ -47,7 +47,7 @@ fn is_missing(command: &Command, words: &[String]) -> bool
     ensures { result ≡ is_missing (required_key command.now) (map string_bytes words.now) }
 {
     match command.required_key() {
-        Some(key) => value_of(key.name, words).is_none(),
+        Some(key) => value_of("", key.name, words).is_none(),
         None => false,
     }
 }
@@ -55,16 +55,16 @@ fn is_missing(command: &Command, words: &[String]) -> bool
 #[tactic(auto, unfolding(crate::specs::Read::late_fault))]
 fn late_fault(command: &Command, words: &[String]) -> Option<WordKind>
     ensures value { result ≡ late_fault command.now (map string_bytes words.now) }
-    ensures lsq { result ≡ None → number_in (map string_bytes words.now) key_specs.lsq_key ≤ number_in (map string_bytes words.now) key_specs.ruu_key }
-    ensures offset { result ≡ None → number_in (map string_bytes words.now) key_specs.offset_key < number_in (map string_bytes words.now) key_specs.every_key }
+    ensures lsq { result ≡ None → number_in [] (map string_bytes words.now) key_specs.lsq_key ≤ number_in [] (map string_bytes words.now) key_specs.ruu_key }
+    ensures offset { result ≡ None → number_in [] (map string_bytes words.now) key_specs.offset_key < number_in [] (map string_bytes words.now) key_specs.every_key }
 {
     if is_missing(command, words) {
         return Some(WordKind::Missing);
     }
-    if number(words, &keys::RUU) < number(words, &keys::LSQ) {
+    if number(words, "", &keys::RUU) < number(words, "", &keys::LSQ) {
         return Some(WordKind::LsqOverRuu);
     }
-    if number(words, &keys::EVERY) <= number(words, &keys::OFFSET) {
+    if number(words, "", &keys::EVERY) <= number(words, "", &keys::OFFSET) {
         return Some(WordKind::OffsetNotBelowEvery);
     }
     None

@@ -3,6 +3,7 @@ mod processors;
 
 use super::*;
 use confidence::{Sums, Test};
+use configured::config;
 use elf_image::ImageFault;
 use hierarchy::Config;
 use ordered_fold::Ending;
@@ -271,6 +272,20 @@ fn reads_other_commands(rt: HostRuntime) -> Result<(), Fail> {
             test: TEST,
         };
         expect_command(&rt, line, &demo)?;
+    }
+    Ok(())
+}
+
+// A key with the prefix goes before the key alone, and that before the default.
+#[test]
+fn reads_keys_with_a_prefix(rt: HostRuntime) -> Result<(), Fail> {
+    let words = words(rt.alloc(), "b.memlat=50 memlat=70 lsq=8 b.ruu=64")?;
+    for (prefix, memory, places) in [("", 70, 32), ("b.", 50, 64), ("v1.", 70, 32)] {
+        let config = config(&words, prefix);
+        assert_eq!(rt; config.latencies.mem, memory, "{prefix}");
+        assert_eq!(rt; config.widths.lsq, 8, "{prefix}");
+        assert_eq!(rt; config.widths.ruu, places, "{prefix}");
+        assert_eq!(rt; config.latencies.tlb, 30, "{prefix}");
     }
     Ok(())
 }

@@ -1,29 +1,55 @@
-ghost use Rattle.std.specs.Prelude.{◌≡◌, ◌<◌, ℕ, map, length, string_bytes, IfSome, option_copied};
-ghost use Rattle.smarts_text.specs.Words.{fault_after, first_fault, value_in, value_of};
+ghost use Rattle.std.specs.Prelude.{◌≡◌, ◌++◌, ◌<◌, ℕ, map, length, string_bytes, IfSome, option_copied};
+ghost use Rattle.std.specs.Str.{bytes_eq};
+ghost use Rattle.smarts_text.specs.Words.{fault_after, first_fault, value_in, value_of, value_under};
 
 use crate::keys::{Group, form_of};
 use crate::parts::parts;
 use crate::read::WordKind;
 use crate::values::misread;
 
-#[tactic(auto, unfolding(crate::specs::Words::value_in))]
-fn value_in<'a>(name: &str, word: &'a str) -> Option<&'a str>
-    ensures { option_copied result ≡ value_in name.now word.now }
+// Whether the key is this name with this prefix before it.
+fn is_named(key: &str, prefix: &str, name: &str) -> bool
+    ensures { result ≡ bytes_eq key.now (prefix.now ++ name.now) }
 {
-    let (key, value) = parts(word, '=')?;
-    if key == name { Some(value) } else { None }
+    match key.as_bytes().strip_prefix(prefix.as_bytes()) {
+        Some(rest) => rest == name.as_bytes(),
+        None => false,
+    }
 }
 
-/// The value that the words give to the key of this name.
-pub fn value_of<'a>(name: &str, words: &'a [String]) -> Option<&'a str>
-    ensures { option_copied result ≡ value_of name.now (map string_bytes words.now) }
+#[tactic(auto, unfolding(crate::specs::Words::value_in))]
+fn value_in<'a>(prefix: &str, name: &str, word: &'a str) -> Option<&'a str>
+    ensures { option_copied result ≡ value_in (prefix.now ++ name.now) word.now }
+{
+    let (key, value) = parts(word, '=')?;
+    if is_named(key, prefix, name) {
+        Some(value)
+    } else {
+        None
+    }
+}
+
+/// The value that the words give to the key of this name with this prefix before it.
+pub fn value_of<'a>(prefix: &str, name: &str, words: &'a [String]) -> Option<&'a str>
+    ensures { option_copied result ≡ value_of (prefix.now ++ name.now) (map string_bytes words.now) }
 {
     for word in words {
-        if let Some(value) = value_in(name, word.as_str()) {
+        if let Some(value) = value_in(prefix, name, word.as_str()) {
             return Some(value);
         }
     }
     None
+}
+
+/// The value that they give to the key with the prefix, and else to the key alone.
+#[tactic(auto, unfolding(crate::specs::Words::value_under))]
+pub fn value_under<'a>(prefix: &str, name: &str, words: &'a [String]) -> Option<&'a str>
+    ensures { option_copied result ≡ value_under prefix.now name.now (map string_bytes words.now) }
+{
+    match value_of(prefix, name, words) {
+        Some(value) => Some(value),
+        None => value_of("", name, words),
+    }
 }
 
 // What is wrong with a word of a command with keys of these groups, after these words.
@@ -37,7 +63,7 @@ fn fault_of(groups: &[Group], earlier: &[String], word: &str) -> Option<WordKind
     let Some(form) = form_of(groups, name) else {
         return Some(WordKind::UnknownKey);
     };
-    if value_of(name, earlier).is_some() {
+    if value_of("", name, earlier).is_some() {
         return Some(WordKind::Repeated);
     }
     misread(form, value)

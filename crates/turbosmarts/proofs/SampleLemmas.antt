@@ -21,8 +21,8 @@ use Rattle.turbosmarts.specs.commands.Sample.{units_or_fault, report_on, sample_
 use Rattle.turbosmarts.specs.declared.ending.Exit.{Exit}
 use Rattle.turbosmarts.specs.Stages.{image_or_fault, exit_or_fault}
 use Rattle.unit_answers.specs.Answers.{whole_answer, unit_answers}
-use Rattle.turbosmarts.specs.Visits.{visited}
-use Rattle.turbosmarts.proofs.Folds.{visited_is, ending_whole}
+use Rattle.turbosmarts.specs.Folding.{visited}
+use Rattle.turbosmarts.proofs.FoldingLemmas.{visited_is, ending_whole}
 
 -- a machine that an image starts hasn't exited
 start_exit : (image : ImageValue) → (start_of image).exit ≡ None

@@ -13,7 +13,7 @@ use Rattle.turbosmarts.specs.declared.fault.InputFault.{InputFault}
 use Rattle.turbosmarts.specs.commands.Demo.{demo_result}
 use Rattle.turbosmarts.specs.commands.Run.{run_result}
 use Rattle.turbosmarts.specs.commands.Sample.{sample_result}
-use Rattle.turbosmarts.specs.Faults.{status_of}
+use Rattle.turbosmarts.specs.Fault.{status_of}
 use Rattle.turbosmarts.specs.Stages.{Written}
 
 -- the largest image, in bytes

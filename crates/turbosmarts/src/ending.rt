@@ -1,5 +1,5 @@
 ghost use Rattle.std.specs.Prelude.{◌≡◌, ◌≤◌, take};
-ghost use Rattle.turbosmarts.specs.Ends.{end_line};
+ghost use Rattle.turbosmarts.specs.Ending.{end_line};
 
 use smarts_text::{Status, exit_text, fault_text};
 

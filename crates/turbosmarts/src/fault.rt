@@ -1,5 +1,5 @@
 ghost use Rattle.std.specs.Prelude.{◌≡◌};
-ghost use Rattle.turbosmarts.specs.Faults.{status_of};
+ghost use Rattle.turbosmarts.specs.Fault.{status_of};
 
 use elf_image::ImageFault;
 use rv_exec::Trap;

@@ -3,7 +3,7 @@ ghost use Rattle.confidence.specs.Confidence.{IsInRange};
 ghost use Rattle.confidence.specs.Sums.{IsCycles};
 ghost use Rattle.ordered_fold.specs.Front.{IsSound, front_of, is_going};
 ghost use Rattle.smarts_text.specs.Report.{IsReported};
-ghost use Rattle.turbosmarts.specs.Visits.{visited, ArePlaces};
+ghost use Rattle.turbosmarts.specs.Folding.{visited, ArePlaces};
 
 use confidence::{Answer, Test};
 use ordered_fold::{Ending, Front};

@@ -37,7 +37,7 @@ fn main(rt: HostRuntime) -> ExitCode {
         Ok(words) => match text_for(&words) {
             Some(text) => match write_all(&mut sink, text.as_bytes()) {
                 Ok(()) => Status::Done,
-                Err(failed) => told(
+                Err(failed) => tell_fault(
                     &mut lines,
                     Status::WriteFault {
                         taken: failed.taken,
@@ -49,7 +49,7 @@ fn main(rt: HostRuntime) -> ExitCode {
                 turbosmarts(rt.alloc(), &words, &mut source, &mut sink, &mut lines)
             }
         },
-        Err(status) => told(&mut lines, status),
+        Err(status) => tell_fault(&mut lines, status),
     };
     ExitCode::from(status.number())
 }
@@ -66,8 +66,8 @@ fn text_for(words: &[String]) -> Option<&'static str> {
     }
 }
 
-// Tells a fault that came before the call of the program.
-fn told<F: smarts_io::Sink>(lines: &mut F, status: Status) -> Status {
+// Tells of a fault that came before the call of the program, and answers it.
+fn tell_fault<F: smarts_io::Sink>(lines: &mut F, status: Status) -> Status {
     let mut text = [0; 64];
     let length = ending::End::of(status).text(&mut text);
     tell(lines, &text[..length]);

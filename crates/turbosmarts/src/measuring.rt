@@ -4,8 +4,8 @@ ghost use Rattle.rv_machine.specs.declared.outcome.Outcome.TheVariants.{Exited};
 ghost use Rattle.rv_machine.specs.Machine.{Machine};
 ghost use Rattle.rv_machine.specs.Outcome.{outcome_of};
 ghost use Rattle.sample_design.specs.Design.{IsUsable};
-ghost use Rattle.turbosmarts.specs.Parts.{AreMeasured, HasCome, IsPart};
-ghost use Rattle.turbosmarts.specs.Shown.{events_to};
+ghost use Rattle.turbosmarts.specs.Measuring.{AreMeasured, HasCome, IsPart};
+ghost use Rattle.turbosmarts.specs.Processor.{events_to};
 
 use crate::meter::Meter;
 use crate::processor::Processor;

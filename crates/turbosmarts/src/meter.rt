@@ -4,8 +4,8 @@ ghost use Rattle.rv_exec.specs.declared.event.Event.{Event as EventValue};
 ghost use Rattle.rv_exec.specs.Machine.{State};
 ghost use Rattle.sample_design.specs.Design.{IsUsable};
 ghost use Rattle.sample_design.specs.Units.{window_of};
-ghost use Rattle.turbosmarts.specs.Parts.{HasShown, IsMeasuring, units_ended};
-ghost use Rattle.turbosmarts.specs.Shown.{CanTell, events_to};
+ghost use Rattle.turbosmarts.specs.Measuring.{HasShown, IsMeasuring, units_ended};
+ghost use Rattle.turbosmarts.specs.Processor.{CanTell, events_to};
 
 use crate::processor::Processor;
 use sample_design::Design;
@@ -37,7 +37,7 @@ impl Meter {
 
     /// Asks the processor for the cycles of a unit of which so many instructions ran, where it is a sampled unit
     /// and ran whole.
-    #[tactic(auto, using(crate::proofs::Measures::measuring_cut, crate::proofs::Measures::measuring_kept))]
+    #[tactic(auto, using(crate::proofs::IsMeasuringLemmas::measuring_cut, crate::proofs::IsMeasuringLemmas::measuring_kept))]
     pub fn take<P: Processor>(
         &mut self,
         design: &Design,

@@ -1,6 +1,6 @@
 ghost use Rattle.std.specs.Prelude.{◌≡◌, ◌≤◌, drop, true, [], IfOk};
 ghost use Rattle.hierarchy.specs.Config.{IsConfig};
-ghost use Rattle.turbosmarts.specs.Processors.{HasMarked};
+ghost use Rattle.turbosmarts.specs.OutOfOrder.{HasMarked};
 
 use crate::processor::Processor;
 use circular_buffer::HeapCircularBuffer;

@@ -4,7 +4,7 @@ ghost use Rattle.hierarchy.specs.declared.config.Config.{Config as ConfigValue};
 ghost use Rattle.hierarchy.specs.Config.{IsConfig};
 ghost use Rattle.rv_exec.specs.declared.event.Event.{Event as EventValue};
 ghost use Rattle.rv_exec.specs.Event.{IsWellFormed};
-ghost use Rattle.turbosmarts.specs.Shown.{CanTell, IsAtEnd, window_cycles};
+ghost use Rattle.turbosmarts.specs.Processor.{CanTell, IsAtEnd, window_cycles};
 
 use rv_exec::Event;
 use sample_design::Window;

@@ -1,5 +1,5 @@
 ghost use Rattle.std.specs.Prelude.{◌≡◌, false, []};
-ghost use Rattle.turbosmarts.specs.Processors.{HasSummed};
+ghost use Rattle.turbosmarts.specs.Scalar.{HasSummed};
 
 use crate::processor::Processor;
 use hierarchy::Config;
@@ -37,6 +37,7 @@ impl<'a> Processor for Scalar<'a> {
         self.cycles = 0;
     }
 
+    // The loop over a run calls it once an instruction, for one addition.
     #[inline(always)]
     fn see(&mut self, event: &Event) {
         let latency = scalar_latency(&self.config.latencies, event.class);

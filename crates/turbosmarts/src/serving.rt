@@ -5,7 +5,7 @@ ghost use Rattle.smarts_text.specs.Command.{IsSound};
 ghost use Rattle.smarts_text.specs.Texts.{fault_line};
 ghost use Rattle.turbosmarts.specs.declared.fault.InputFault.{InputFault as InputFaultValue};
 ghost use Rattle.turbosmarts.specs.Answer.{command_answer, done_or_refused, input_limit};
-ghost use Rattle.turbosmarts.specs.Ends.{EndsAs, GivesAnswer, IsBadWords, IsFault, IsUnwritten, end_line};
+ghost use Rattle.turbosmarts.specs.Ending.{EndsAs, GivesAnswer, IsBadWords, IsFault, IsUnwritten, end_line};
 ghost use Rattle.turbosmarts.specs.Stages.{Written as WrittenValue};
 
 use crate::commands::{answer, input_limit};

@@ -1,4 +1,4 @@
-ghost use Rattle.turbosmarts.specs.Tells.{TakesFront};
+ghost use Rattle.turbosmarts.specs.Telling.{TakesFront};
 
 use smarts_io::{Sink, write_all};
 

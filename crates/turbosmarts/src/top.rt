@@ -4,8 +4,8 @@ ghost use Rattle.smarts_io.specs.Causes.{Rose};
 ghost use Rattle.smarts_text.specs.Read.{meaning};
 ghost use Rattle.smarts_text.specs.Texts.{fault_line};
 ghost use Rattle.turbosmarts.specs.Answer.{AsksForInput, answer};
-ghost use Rattle.turbosmarts.specs.Ends.{EndsAs, HasAnswered, IsAnswered, IsBadWords, IsDetermined, IsFault, IsUnwritten, end_line};
-ghost use Rattle.turbosmarts.specs.Tells.{TakesFront};
+ghost use Rattle.turbosmarts.specs.Ending.{EndsAs, HasAnswered, IsAnswered, IsBadWords, IsDetermined, IsFault, IsUnwritten, end_line};
+ghost use Rattle.turbosmarts.specs.Telling.{TakesFront};
 
 use crate::ending::End;
 use crate::serving::serve;

@@ -11,7 +11,7 @@ ghost use Rattle.sample_design.specs.Design.{IsUsable};
 ghost use Rattle.sample_design.specs.Units.{EndsWithin, sampled_unit, units_of};
 ghost use Rattle.smarts_base.specs.Outcome.{Answers};
 ghost use Rattle.turbosmarts.specs.commands.Sample.{report_on, sample_result, units_or_fault};
-ghost use Rattle.turbosmarts.specs.Parts.{AreMeasured};
+ghost use Rattle.turbosmarts.specs.Measuring.{AreMeasured};
 ghost use Rattle.unit_answers.specs.Answers.{unit_answers, whole_answer};
 
 use crate::fault::InputFault;

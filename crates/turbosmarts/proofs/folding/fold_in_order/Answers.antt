@@ -1,7 +1,7 @@
 use Rattle.std.proofs.Common.{◌<◌, sym, ap, ◌∙◌, arith, ℕ, []}
 use Rattle.ordered_fold.specs.declared.front.Front.{Front}
 use Rattle.ordered_fold.specs.Front.{front_of, is_going}
-use Rattle.turbosmarts.proofs.Folds.{with_next, ended_whole, all_whole, still_going, reported_push, no_sums}
+use Rattle.turbosmarts.proofs.FoldingLemmas.{with_next, ended_whole, all_whole, still_going, reported_push, no_sums}
 use Rattle.turbosmarts.proofs.folding.fold_in_order.Goals as goal
 
 pub loop-k-init : goal.loop-k-init

@@ -1,6 +1,6 @@
 use Rattle.std.proofs.Common.{length}
-use Rattle.turbosmarts.specs.Visits.{visited}
-use Rattle.turbosmarts.proofs.Folds.{IsFolding}
+use Rattle.turbosmarts.specs.Folding.{visited}
+use Rattle.turbosmarts.proofs.FoldingLemmas.{IsFolding}
 use Rattle.turbosmarts.proofs.folding.fold_in_order.Given as goal
 
 abbrev pub invariant-loop-k : goal.invariant-loop-k

@@ -1,9 +1,9 @@
 use Rattle.std.proofs.Common.{◌≡◌, ◌≤◌, ◌<◌, ◌*◌, ◌+◌, min, arith, refl, ◌∙◌}
 use Rattle.rv_machine.proofs.UnderWayLemmas.{is_spent}
-use Rattle.turbosmarts.proofs.Measures.{measuring_start}
-use Rattle.turbosmarts.proofs.PartSteps.{come_first, unit_begins}
-use Rattle.turbosmarts.proofs.Whiles.{in_loop, after_loop, come_kept, units_at_exit, exited_in, trapped_in, way_on, units_on, part_shown}
-use Rattle.turbosmarts.proofs.Windows.{can_tell}
+use Rattle.turbosmarts.proofs.IsMeasuringLemmas.{measuring_start}
+use Rattle.turbosmarts.proofs.IsPartLemmas.{come_first, unit_begins}
+use Rattle.turbosmarts.proofs.BudgetLemmas.{in_loop, after_loop, come_kept, units_at_exit, exited_in, trapped_in, way_on, units_on, part_shown}
+use Rattle.turbosmarts.proofs.ProcessorLemmas.{can_tell}
 use Rattle.turbosmarts.proofs.measuring.measure.Goals as goal
 
 pub loop-unit-init : goal.loop-unit-init

@@ -1,6 +1,6 @@
 use Rattle.std.proofs.Common.{◌≡◌, ◌≤◌, ◌*◌, ℕ, min}
-use Rattle.turbosmarts.specs.Parts.{HasCome, IsMeasuring}
-use Rattle.turbosmarts.specs.Shown.{events_to}
+use Rattle.turbosmarts.specs.Measuring.{HasCome, IsMeasuring}
+use Rattle.turbosmarts.specs.Processor.{events_to}
 use Rattle.turbosmarts.proofs.measuring.measure.Given as goal
 
 abbrev pub invariant-loop-unit : goal.invariant-loop-unit

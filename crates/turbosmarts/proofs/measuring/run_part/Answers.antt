@@ -1,6 +1,6 @@
 use Rattle.std.proofs.Common.{sym, ap, ◌∙◌, refl, arith}
 use Rattle.rv_exec.specs.Machine.{State}
-use Rattle.turbosmarts.proofs.PartSteps.{part_begins, part_goes_on, part_exits, part_traps, part_full, events_more}
+use Rattle.turbosmarts.proofs.IsPartLemmas.{part_begins, part_goes_on, part_exits, part_traps, part_full, events_more}
 use Rattle.turbosmarts.proofs.measuring.run_part.Goals as goal
 
 pub loop-done-init : goal.loop-done-init

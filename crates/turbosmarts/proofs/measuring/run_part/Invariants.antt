@@ -1,7 +1,7 @@
 use Rattle.std.proofs.Common.{◌≡◌, ◌+◌, ℕ, None}
 use Rattle.rv_machine.specs.Machine.{Machine}
-use Rattle.turbosmarts.specs.Parts.{HasCome}
-use Rattle.turbosmarts.specs.Shown.{events_to}
+use Rattle.turbosmarts.specs.Measuring.{HasCome}
+use Rattle.turbosmarts.specs.Processor.{events_to}
 use Rattle.turbosmarts.proofs.measuring.run_part.Given as goal
 
 abbrev pub invariant-loop-done : goal.invariant-loop-done

@@ -2,9 +2,9 @@ use Rattle.std.proofs.Common.{Result, refl, sym, ap, ◌∙◌}
 use Rattle.smarts_text.specs.declared.status.Status.TheVariants.{Done}
 use Rattle.turbosmarts.specs.declared.fault.InputFault.{InputFault}
 use Rattle.turbosmarts.specs.Answer.{done_or_refused}
-use Rattle.turbosmarts.specs.Ends.{end_line}
+use Rattle.turbosmarts.specs.Ending.{end_line}
 use Rattle.turbosmarts.specs.Stages.{Written}
-use Rattle.turbosmarts.proofs.EndsLemmas.{gives_done, told_when_done}
+use Rattle.turbosmarts.proofs.EndingLemmas.{gives_done, told_when_done}
 use Rattle.turbosmarts.proofs.serving.give.Goals as goal
 
 pub returns-in-Ok-write_all-clause-gives : goal.returns-in-Ok-write_all-clause-gives

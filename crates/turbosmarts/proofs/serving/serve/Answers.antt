@@ -1,6 +1,6 @@
 use Rattle.std.proofs.Common.{◌≡◌, [], Some, None, arith, refl, sym, ◌∙◌}
 use Rattle.turbosmarts.specs.Answer.{input_limit}
-use Rattle.turbosmarts.proofs.EndsLemmas.{ends_served, gives_nothing, read_answer, reads_some, some_input, some_told, unread_answer, was_read}
+use Rattle.turbosmarts.proofs.EndingLemmas.{ends_served, gives_nothing, read_answer, reads_some, some_input, some_told, unread_answer, was_read}
 use Rattle.turbosmarts.proofs.serving.serve.Goals as goal
 
 pub returns-in_default-clause-ends : goal.returns-in_default-clause-ends

@@ -1,4 +1,4 @@
-use Rattle.turbosmarts.proofs.TellsLemmas.{tells}
+use Rattle.turbosmarts.proofs.TellingLemmas.{tells}
 use Rattle.turbosmarts.proofs.telling.tell.Goals as goal
 
 pub returns : goal.returns

@@ -1,6 +1,6 @@
 use Rattle.std.proofs.Common.{◌≡◌, refl, ap, ◌∙◌}
 use Rattle.smarts_text.specs.declared.status.Status.TheVariants.{BadWords}
-use Rattle.turbosmarts.proofs.EndsLemmas.{ends_accepted, ends_with_fault}
+use Rattle.turbosmarts.proofs.EndingLemmas.{ends_accepted, ends_with_fault}
 use Rattle.turbosmarts.proofs.top.end_of.Goals as goal
 
 pub returns-in-Ok-clause-ends : goal.returns-in-Ok-clause-ends

@@ -1,6 +1,6 @@
 use Rattle.std.proofs.Common.{ℕ, List}
-use Rattle.turbosmarts.specs.Tells.{TakesFront}
-use Rattle.turbosmarts.proofs.EndsLemmas.{determined_answered, done_answered, cut_answered, has_told, told_status, told_written, told_done, told_front, told_short, told_read, told_lines}
+use Rattle.turbosmarts.specs.Telling.{TakesFront}
+use Rattle.turbosmarts.proofs.EndingLemmas.{determined_answered, done_answered, cut_answered, has_told, told_status, told_written, told_done, told_front, told_short, told_read, told_lines}
 use Rattle.turbosmarts.proofs.top.turbosmarts.Goals as goal
 
 pub returns-clause-answered : goal.returns-clause-answered

@@ -1,6 +1,6 @@
 use Rattle.std.proofs.Common.{◌≡◌, ◌+◌, ◌*◌, ap, arith}
-use Rattle.turbosmarts.proofs.Measures.{measuring_kept}
-use Rattle.turbosmarts.proofs.Windows.{unit_told, at_end}
+use Rattle.turbosmarts.proofs.IsMeasuringLemmas.{measuring_kept}
+use Rattle.turbosmarts.proofs.ProcessorLemmas.{unit_told, at_end}
 use Rattle.turbosmarts.proofs.meter.Meter.take.Goals as goal
 
 pub returns-clause-measured : goal.returns-clause-measured

@@ -1,4 +1,4 @@
-use Rattle.turbosmarts.proofs.Latest.{marked_none}
+use Rattle.turbosmarts.proofs.OutOfOrderLemmas.{marked_none}
 use Rattle.turbosmarts.proofs.out_of_order.OutOfOrder.new.Goals as goal
 
 pub returns-clause-shown : goal.returns-clause-shown

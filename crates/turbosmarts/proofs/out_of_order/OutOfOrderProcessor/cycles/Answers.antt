@@ -1,4 +1,4 @@
-use Rattle.turbosmarts.proofs.Latest.{has_window, marked_told}
+use Rattle.turbosmarts.proofs.OutOfOrderLemmas.{has_window, marked_told}
 use Rattle.turbosmarts.proofs.out_of_order.OutOfOrderProcessor.cycles.Goals as goal
 
 pub overflow_sub-from : goal.overflow_sub-from

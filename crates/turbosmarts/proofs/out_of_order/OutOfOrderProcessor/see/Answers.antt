@@ -1,5 +1,5 @@
 use Rattle.std.proofs.Common.{refl}
-use Rattle.turbosmarts.proofs.Latest.{marked_more}
+use Rattle.turbosmarts.proofs.OutOfOrderLemmas.{marked_more}
 use Rattle.turbosmarts.proofs.out_of_order.OutOfOrderProcessor.see.Goals as goal
 
 pub returns-clause-shown : goal.returns-clause-shown

@@ -1,4 +1,4 @@
-use Rattle.turbosmarts.proofs.Summed.{summed_none}
+use Rattle.turbosmarts.proofs.ScalarLemmas.{summed_none}
 use Rattle.turbosmarts.proofs.scalar.Scalar.new.Goals as goal
 
 pub returns-clause-shown : goal.returns-clause-shown

@@ -1,4 +1,4 @@
-use Rattle.turbosmarts.proofs.Summed.{summed_anew}
+use Rattle.turbosmarts.proofs.ScalarLemmas.{summed_anew}
 use Rattle.turbosmarts.proofs.scalar.ScalarProcessor.begin_unit.Goals as goal
 
 pub returns-clause-shown : goal.returns-clause-shown

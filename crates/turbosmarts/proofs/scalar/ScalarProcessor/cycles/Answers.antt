@@ -1,4 +1,4 @@
-use Rattle.turbosmarts.proofs.Summed.{summed_told}
+use Rattle.turbosmarts.proofs.ScalarLemmas.{summed_told}
 use Rattle.turbosmarts.proofs.scalar.ScalarProcessor.cycles.Goals as goal
 
 pub returns-clause-value : goal.returns-clause-value

@@ -1,5 +1,5 @@
 use Rattle.std.proofs.Common.{refl}
-use Rattle.turbosmarts.proofs.Summed.{summed_more}
+use Rattle.turbosmarts.proofs.ScalarLemmas.{summed_more}
 use Rattle.turbosmarts.proofs.scalar.ScalarProcessor.see.Goals as goal
 
 pub returns-clause-shown : goal.returns-clause-shown

@@ -10,7 +10,7 @@ use Rattle.hierarchy.specs.declared.config.Config.{Config}
 use Rattle.rv_exec.specs.Machine.{State}
 use Rattle.sample_design.specs.declared.design.Design.{Design}
 use Rattle.sample_design.specs.Units.{sampled_unit}
-use Rattle.turbosmarts.specs.Parts.{IsMeasuring, AreMeasured, units_ended}
+use Rattle.turbosmarts.specs.Measuring.{IsMeasuring, AreMeasured, units_ended}
 use Rattle.unit_answers.specs.Answers.{whole_answer}
 
 pub measuring_start :

@@ -14,7 +14,7 @@ use Rattle.smarts_text.specs.Texts.{fault_line}
 use Rattle.turbosmarts.specs.Answer.{Answer, answer, words_answer, command_answer, command_result, done_or_refused, exit_lines, input_limit, read_within, AsksForInput}
 use Rattle.turbosmarts.specs.declared.ending.Exit.{Exit}
 use Rattle.turbosmarts.specs.declared.fault.InputFault.{InputFault}
-use Rattle.turbosmarts.specs.Ends.{Change, EndsAs, GivesAnswer, HasAnswered, IsAnswered, IsDetermined, IsFault, IsUnwritten, end_line}
+use Rattle.turbosmarts.specs.Ending.{Change, EndsAs, GivesAnswer, HasAnswered, IsAnswered, IsDetermined, IsFault, IsUnwritten, end_line}
 use Rattle.turbosmarts.specs.Stages.{Written}
 
 -- what holds of the input that was answered holds of the one that the source told

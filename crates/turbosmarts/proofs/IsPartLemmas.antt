@@ -9,8 +9,8 @@ use Rattle.rv_machine.specs.declared.outcome.Outcome.TheVariants.{Exited}
 use Rattle.rv_machine.specs.Machine.{Machine, Advances}
 use Rattle.rv_machine.proofs.UnderWayLemmas.{at_start, goes_on, exits, traps}
 use Rattle.turbosmarts.specs.declared.measuring.PartEnd.TheVariants as ends
-use Rattle.turbosmarts.specs.Parts.{HasCome, HasShown, IsPart}
-use Rattle.turbosmarts.specs.Shown.{events_to}
+use Rattle.turbosmarts.specs.Measuring.{HasCome, HasShown, IsPart}
+use Rattle.turbosmarts.specs.Processor.{events_to}
 
 -- so many instructions of the part ran
 pub part_begins :

@@ -11,9 +11,9 @@ use Rattle.rv_machine.specs.declared.outcome.Outcome.TheVariants.{Exited, Trappe
 use Rattle.rv_machine.specs.Machine.{Machine}
 use Rattle.rv_machine.specs.Outcome.{outcome_of}
 use Rattle.sample_design.specs.declared.design.Design.{Design}
-use Rattle.turbosmarts.specs.Parts.{HasCome, HasShown, IsMeasuring, AreMeasured, units_ended}
-use Rattle.turbosmarts.specs.Shown.{events_to}
-use Rattle.turbosmarts.proofs.Measures.{all_measured, past_units}
+use Rattle.turbosmarts.specs.Measuring.{HasCome, HasShown, IsMeasuring, AreMeasured, units_ended}
+use Rattle.turbosmarts.specs.Processor.{events_to}
+use Rattle.turbosmarts.proofs.IsMeasuringLemmas.{all_measured, past_units}
 
 pub next_unit : (unit size : ℕ) → (unit + 1) * size ≡ unit * size + size
 next_unit unit size = ap (λ (n : ℕ). n * size) (add-one unit) ∙ suc-mul unit size

@@ -18,8 +18,8 @@ use Rattle.ruu_timing.specs.Times.{cycles}
 use Rattle.ruu_timing.specs.Trace.{IsTrace}
 use Rattle.rv_exec.specs.declared.event.Event.{Event}
 use Rattle.sample_design.specs.declared.units.Window.{Window}
-use Rattle.turbosmarts.specs.Processors.{HasMarked}
-use Rattle.turbosmarts.specs.Shown.{marks_of, window_cycles, IsAtEnd, IsTimeable}
+use Rattle.turbosmarts.specs.OutOfOrder.{HasMarked}
+use Rattle.turbosmarts.specs.Processor.{marks_of, window_cycles, IsAtEnd, IsTimeable}
 use Rattle.ruu_timing.specs.Machine.{cycles_by}
 
 -- the last of a list, and of one with one more

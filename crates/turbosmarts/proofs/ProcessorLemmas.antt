@@ -15,8 +15,8 @@ use Rattle.sample_design.specs.declared.design.Design.{Design}
 use Rattle.sample_design.specs.declared.units.Window.{Window}
 use Rattle.sample_design.specs.Design.{IsUsable}
 use Rattle.sample_design.specs.Units.{window_of}
-use Rattle.turbosmarts.specs.Parts.{HasShown}
-use Rattle.turbosmarts.specs.Shown.{events_to, marks_of, window_cycles, IsAtEnd, IsTimeable, CanTell}
+use Rattle.turbosmarts.specs.Measuring.{HasShown}
+use Rattle.turbosmarts.specs.Processor.{events_to, marks_of, window_cycles, IsAtEnd, IsTimeable, CanTell}
 use Rattle.ruu_timing.specs.Machine.{cycles_of}
 use Rattle.unit_answers.specs.Answers.{answer_by, whole_answer}
 

@@ -4,7 +4,7 @@ use Rattle.std.proofs.Math.Seq.{take-length}
 use Rattle.smarts_io.specs.declared.writing.WriteFailed.{WriteFailed}
 use Rattle.smarts_io.specs.Bytes.{Takes}
 use Rattle.smarts_io.specs.Causes.{HasCause}
-use Rattle.turbosmarts.specs.Tells.{TakesFront}
+use Rattle.turbosmarts.specs.Telling.{TakesFront}
 
 pub tells :
     {A : Type 0} (text : List ℕ) (old new : Option (List ℕ)) (before now : ℕ) (r : Result A WriteFailed)

@@ -17,8 +17,8 @@ use Rattle.ruu_timing.proofs.Scalars.{scalar_within}
 use Rattle.ruu_timing.specs.Scalar.{scalar_latency, scalar_cycles}
 use Rattle.rv_exec.specs.declared.event.Event.{Event}
 use Rattle.sample_design.specs.declared.units.Window.{Window}
-use Rattle.turbosmarts.specs.Processors.{HasSummed, latencies_since}
-use Rattle.turbosmarts.specs.Shown.{marks_of, window_cycles, IsAtEnd, IsTimeable}
+use Rattle.turbosmarts.specs.Scalar.{HasSummed, latencies_since}
+use Rattle.turbosmarts.specs.Processor.{marks_of, window_cycles, IsAtEnd, IsTimeable}
 use Rattle.ruu_timing.specs.Machine.{cycles_by}
 
 -- marking an instruction leaves its class

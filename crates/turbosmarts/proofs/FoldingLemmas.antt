@@ -21,7 +21,7 @@ use Rattle.sample_design.specs.declared.design.Design.{Design}
 use Rattle.sample_design.specs.Order.{order_of}
 use Rattle.sample_design.specs.Units.{sampled_unit}
 use Rattle.unit_answers.specs.Answers.{whole_answer, unit_answers}
-use Rattle.turbosmarts.specs.Visits.{visited, ArePlaces}
+use Rattle.turbosmarts.specs.Folding.{visited, ArePlaces}
 
 -- the front is that of the first so many answers, and goes on
 pub record IsFolding (test : Test) (answers : List Answer) (total done : ℕ) (front : Front) : Type 0 where
