@@ -1,8 +1,8 @@
 -- Segments of one length in a row: the places of each set.
-use Rattle.std.proofs.Common.{◌≡◌, ℕ, zero, suc, ◌+◌, ◌*◌, ◌<◌, ◌≤◌, List, ◌++◌, length, map, take, drop, set, refl, sym, ap, ◌∙◌, arith, inl, inr, mul-le-mul, suc-mul}
+use Rattle.std.proofs.Common.{◌≡◌, ℕ, zero, suc, ◌+◌, ◌*◌, ◌<◌, ◌≤◌, List, [], ◌∷◌, ◌++◌, length, map, take, drop, set, refl, sym, ap, ◌∙◌, arith, inl, inr, mul-le-mul, suc-mul}
 use Rattle.std.specs.List.{range_with_len}
 use Rattle.std.proofs.lemmas.Bool.{cases_lt}
-use Rattle.std.proofs.lemmas.List.{length-take-le, length-drop, take_at, drop_at, drop-take, length-append}
+use Rattle.std.proofs.lemmas.List.{length-take-le, length-drop, take_at, drop_at, drop-take, length-append, take-set-le, drop-set-lt, drop-set-add}
 use Rattle.std.proofs.lemmas.Slice.{take-put_mid_below, drop-put_mid}
 
 -- lists made by two functions of the place that differ at one place alone
@@ -92,3 +92,27 @@ module _ {X : Type 0} where
           long,
           within,
         )
+
+  -- one place of a segment is written
+  pub take_set : (n : ℕ) (xs : List X) (i : ℕ) (x : X) → take n (set xs i x) ≡ set (take n xs) i x
+  take_set zero xs i x = refl
+  take_set (suc n) [] i x = refl
+  take_set (suc n) (y ∷ ys) zero x = refl
+  take_set (suc n) (y ∷ ys) (suc i) x = ap (λ (l : List X). y ∷ l) (take_set n ys i x)
+
+  module _ (ways k w : ℕ) (row : List X) (x : X) (below : w < ways) where
+    pub set_here : take ways (drop (k * ways) (set row (k * ways + w) x)) ≡ set (take ways (drop (k * ways) row)) w x
+    set_here = ap (take ways) (drop-set-add (k * ways) row w x) ∙ take_set ways (drop (k * ways) row) w x
+
+    pub set_elsewhere : (j : ℕ) → (j ≡ k → ⊥) → take ways (drop (j * ways) (set row (k * ways + w) x)) ≡ take ways (drop (j * ways) row)
+    set_elsewhere j other =
+        elim (cases_lt j k) [
+          | inl before ↦
+              let apart : j * ways + ways ≤ k * ways = segment_below j k ways before in
+              sym (drop-take (j * ways) ways (set row (k * ways + w) x))
+              ∙ ap (drop (j * ways)) (take-set-le (j * ways + ways) row (k * ways + w) x (omega (arith, apart)))
+              ∙ drop-take (j * ways) ways row
+          | inr behind ↦
+              let apart : k * ways + ways ≤ j * ways = segment_below k j ways (omega (arith, behind, other)) in
+              ap (take ways) (drop-set-lt (j * ways) row (k * ways + w) x (omega (arith, apart, below)))
+        ]

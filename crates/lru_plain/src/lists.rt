@@ -127,17 +127,6 @@ fn free_all<E: Listed>(row: &mut [E], free: E)
     }
 }
 
-/// Where the places of a set begin.
-#[inline]
-#[tactic(auto, using(crate::proofs::ListsLemmas::start_fits))]
-fn start_of(geometry: Geometry, set: u32) -> usize
-    requires { set < sets_of geometry }
-    ensures value { result ≡ set * geometry.ways }
-    ensures within { result + geometry.ways ≤ sets_of geometry * geometry.ways }
-{
-    set as usize * usize::from(geometry.ways())
-}
-
 impl<E: Listed> Lists<E> {
     /// Empty lists.
     pub fn new(alloc: Global, geometry: Geometry) -> Result<Lists<E>, NoMemory>
@@ -174,7 +163,7 @@ impl<E: Listed> Lists<E> {
         ensures value { self.new ≡ used E.block_in self.old element }
     {
         let set = element.block() & self.mask;
-        let start = start_of(self.geometry, set);
+        let start = self.geometry.start_of(set);
         let ways = usize::from(self.geometry.ways());
         use_at(&mut self.row, start, ways, element)
     }
@@ -196,9 +185,14 @@ impl<E: Listed> Lists<E> {
           sets = slice_set self.old.sets set (slice_index_or self.old.sets set [] ++ element ∷ []);
         } }
     {
-        let start = start_of(self.geometry, set);
+        let start = self.geometry.start_of(set);
         let ways = usize::from(self.geometry.ways());
         append_at(&mut self.row, start, ways, element);
+    }
+
+    /// What keeps the memory.
+    pub fn allocator(&self) -> Global {
+        *self.row.allocator()
     }
 
     /// The list of a set, the most recent first.
@@ -207,7 +201,7 @@ impl<E: Listed> Lists<E> {
         ensures value { result.now ≡ slice_index_or self.now.sets set [] }
         ensures listing { IsListing self.now }
     {
-        let start = start_of(self.geometry, set);
+        let start = self.geometry.start_of(set);
         let ways = usize::from(self.geometry.ways());
         filled_at(&self.row, start, ways)
     }
