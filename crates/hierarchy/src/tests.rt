@@ -1,4 +1,4 @@
-ghost use Rattle.std.specs.Prelude.{◌≡◌, IfOk};
+ghost use Rattle.std.specs.Prelude.{◌≡◌, ◌%◌, IfOk};
 ghost use Rattle.lru_plain.specs.Cache.{empty_sets};
 ghost use Rattle.hierarchy.specs.Config.{IsConfig};
 
@@ -114,9 +114,12 @@ fn tiny() -> Result<Config, Fail>
     }
 }
 
-fn event(class: Class, pc: u32, addr: Option<u32>, control: Flow, next: u32) -> Event {
+fn event(class: Class, pc: u32, addr: Option<u32>, control: Flow, next: u32) -> Event
+    ensures pc { result.pc % 4 ≡ 0 }
+    ensures next { result.next % 4 ≡ 0 }
+{
     Event {
-        pc,
+        pc: pc / 4 * 4,
         fetched: 0,
         class,
         first: Some(7),
@@ -128,7 +131,7 @@ fn event(class: Class, pc: u32, addr: Option<u32>, control: Flow, next: u32) -> 
             before: 0,
         }),
         control,
-        next,
+        next: next / 4 * 4,
         wrote: None,
     }
 }
