@@ -321,9 +321,6 @@ module _ {X : Type 0} (block_in : X → ℕ) where
 
     -- the places of one set are written
     module _ (set_at : ℕ) (new : List X) (below : set_at < sets_of g) (long : length new ≡ g.ways) where
-      written : List X
-      written = with_places (set_at * g.ways) g.ways row new
-
       pub lists_written : lists_in block_in g (with_places (set_at * g.ways) g.ways row new) ≡ set (lists_in block_in g row) set_at (filled block_in new)
       unfolding lists_in
       lists_written =
@@ -346,9 +343,6 @@ module _ {X : Type 0} (block_in : X → ℕ) where
     module _ (new : X) (set_at : ℕ) (some : block_in new < free_block) (home : set_at ≡ home_of g (block_in new)) (below : set_at < sets_of g) where
       other : block_in new ≡ free_block → ⊥
       other e = omega (arith, e, some)
-
-      places : List X
-      places = places_of g row set_at
 
       pub used_row : IsRow block_in g last (with_places (set_at * g.ways) g.ways row (used_list block_in g.ways new (places_of g row set_at)))
       used_row =

@@ -35,10 +35,6 @@ module _ {X : Type 0} (f g : ℕ → X) where
       let same : 0 + k ≡ k = omega arith in
       set_in_range 0 n k x (ap g same ∙ here) (λ j other below. rest j (λ e. other (e ∙ sym same)) (omega (arith, below)))
 
-  -- equal at each place
-  pub same_in_places : (n : ℕ) → ((j : ℕ) → j < n → g j ≡ f j) → map f (range_with_len 0 n) ≡ map g (range_with_len 0 n)
-  same_in_places n h = same_in_range 0 n (λ j low below. h j (omega (arith, below)))
-
 -- a segment ends before the next begins
 pub segment_below : (j k ways : ℕ) → j < k → j * ways + ways ≤ k * ways
 segment_below j k ways h =

@@ -84,9 +84,6 @@ slots_written g bs ss k w block time h below =
     (λ j other j_below. rw (set_elsewhere g.ways k w bs block below j other, set_elsewhere g.ways k w ss (suc time) below j other) refl)))
 
 -- what a record tells after a reference
-abbrev told : List (Option Entry) → List Entry
-told slots = by_time (taken slots)
-
 pub ordered_referred : (r : Slots) (addr : ℕ) (after : Slots) → IsRecency (ordered r)
     → length (slots_for r (block_of r.shape addr)) ≡ r.shape.ways → IsReferred r addr after
     → ordered after ≡ referred (ordered r) addr
@@ -188,9 +185,6 @@ module _ (g : Shape) (bs ss : List ℕ) (bs_long : length bs ≡ sets_of g * g.w
     some_way : 0 < g.ways
     unfolding ordered
     some_way = is.shape.least
-
-    set_of_place : ℕ
-    set_of_place = place / g.ways
 
     parts_of : place / g.ways * g.ways + place % g.ways ≡ place
     parts_of = div-add-mod' place g.ways
