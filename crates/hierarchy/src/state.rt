@@ -1,4 +1,4 @@
-ghost use Rattle.std.specs.Prelude.{◌≡◌, ◌+◌, ◌++◌, ◌∷◌, [], ℕ, List, None, IfOk};
+ghost use Rattle.std.specs.Prelude.{◌≡◌, ◌%◌, ◌+◌, ◌++◌, ◌∷◌, [], ℕ, List, None, IfOk};
 ghost use Rattle.std.specs.Borrow.{sem};
 ghost use Rattle.lru_plain.specs.Shape.{Shape};
 ghost use Rattle.predictor.specs.declared.kind.PredictorKind.{PredictorKind};
@@ -85,7 +85,9 @@ impl State {
     #[inline]
     #[tactic(auto, unfolding(crate::specs::State::mark_of, crate::specs::State::after_event))]
     fn mark(&mut self, latencies: &Latencies, event: &Event) -> Marked
-        requires { AreLatencies latencies.now }
+        requires latencies { AreLatencies latencies.now }
+        requires pc { event.now.pc % 4 ≡ 0 }
+        requires next { event.now.next % 4 ≡ 0 }
         ensures mark { result ≡ mark_of latencies.now self.old event.now }
         ensures state { self.new ≡ after_event self.old event.now }
         ensures marked { IsWellFormed event.now → IsMarked result }
@@ -109,7 +111,9 @@ impl State {
     /// its references and is learnt from here.
     #[inline]
     pub fn annotate(&mut self, config: &Config, event: &Event) -> Marked
-        requires { IsConfig config.now }
+        requires config { IsConfig config.now }
+        requires pc { event.now.pc % 4 ≡ 0 }
+        requires next { event.now.next % 4 ≡ 0 }
         ensures mark { result ≡ mark_of config.now.latencies self.old event.now }
         ensures state { self.new ≡ after_event self.old event.now }
         ensures marked { IsWellFormed event.now → IsMarked result }

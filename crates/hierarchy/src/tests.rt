@@ -1,4 +1,4 @@
-ghost use Rattle.std.specs.Prelude.{◌≡◌, IfOk};
+ghost use Rattle.std.specs.Prelude.{◌≡◌, ◌%◌, IfOk};
 ghost use Rattle.lru_plain.specs.Cache.{empty_sets};
 ghost use Rattle.hierarchy.specs.Config.{IsConfig};
 
@@ -120,9 +120,12 @@ fn is_shared<T: Sync>(_: &T) {}
 /// Takes types that may go from one thread to another.
 fn is_sent<T: Send>(_: &T) {}
 
-fn event(class: Class, pc: u32, addr: Option<u32>, control: Flow, next: u32) -> Event {
+fn event(class: Class, pc: u32, addr: Option<u32>, control: Flow, next: u32) -> Event
+    ensures pc { result.pc % 4 ≡ 0 }
+    ensures next { result.next % 4 ≡ 0 }
+{
     Event {
-        pc,
+        pc: pc / 4 * 4,
         fetched: 0,
         class,
         first: Some(7),
@@ -134,7 +137,7 @@ fn event(class: Class, pc: u32, addr: Option<u32>, control: Flow, next: u32) -> 
             before: 0,
         }),
         control,
-        next,
+        next: next / 4 * 4,
         wrote: None,
     }
 }

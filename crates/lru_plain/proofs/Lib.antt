@@ -1,2 +1,4 @@
 pub mod Plains
-pub mod Touches
+pub mod CacheLemmas
+pub mod ListsLemmas
+pub mod Segments

@@ -1,4 +1,5 @@
 pub mod Shape
 pub mod View
 pub mod Cache
+pub mod Lists
 pub mod CacheView

@@ -1,9 +1,10 @@
 ghost use Rattle.std.specs.Prelude.{◌≡◌, ℕ, ◌<◌, ◌≤◌, ◌↔◌, List, [], ◌∷◌, ◌++◌, length, slice_index_or, slice_set, IsTrue, IfOk, Contains};
 ghost use Rattle.lru_plain.specs.Shape.{sets_of, home_of, IsShape};
+ghost use Rattle.lru_plain.specs.Lists.{free_block};
 ghost use Rattle.lru_plain.specs.Cache.{touched, IsHit, empty_sets, plain, IsCache};
 
 use crate::geometry::Geometry;
-use crate::lane::Lane;
+use crate::lists::Lists;
 use smarts_base::NoMemory;
 use std::alloc::Global;
 use std::marker::Model;
@@ -11,20 +12,17 @@ use std::marker::Model;
 /// A cache of blocks under LRU replacement. Only `new` takes memory.
 #[derive(Debug, Drop)]
 pub struct PlainCache {
-    geometry: Geometry,
-    sets: Vec<Lane>,
+    lists: Lists<u32>,
 }
 
 impl Model for PlainCache {
-    ghost use Rattle.lru_plain.specs.Cache.{Cache, IsCache};
+    ghost use Rattle.lru_plain.specs.Cache.{Cache};
 
     ghost Value = { Cache };
 
     ghost use Rattle.lru_plain.specs.CacheView.{cache_of};
 
     ghost view = { cache_of };
-
-    ghost invariant = { λ fields. IsCache (cache_of fields) };
 }
 
 impl PlainCache {
@@ -34,22 +32,20 @@ impl PlainCache {
         ensures empty { IfOk result (λ cache. cache ≡ record { shape = geometry; sets = empty_sets geometry }) }
         ensures plain { IfOk result (λ cache. cache.sets ≡ plain [] geometry) }
     {
-        let count = geometry.sets() as usize;
-        let mut sets = Vec::with_capacity(alloc, count)?;
-        for _set in 0..count {
-            sets.push_reserved(Lane::new());
-        }
-        Ok(PlainCache { geometry, sets })
+        Ok(PlainCache {
+            lists: Lists::new(alloc, geometry)?,
+        })
     }
 
     pub fn geometry(&self) -> Geometry
         ensures value { result ≡ self.now.shape }
         ensures cache { IsCache self.now }
     {
-        self.geometry
+        self.lists.geometry()
     }
 
     /// Touches the block of an address, and tells whether it was there.
+    #[inline]
     pub fn touch(&mut self, addr: u32) -> bool
         ensures hit { IsTrue result ↔ IsHit self.old.shape self.old.sets addr }
         ensures sets { self.new ≡ record self.old { sets = touched self.old.shape self.old.sets addr } }
@@ -58,26 +54,22 @@ impl PlainCache {
         ensures plain { (addrs : List ℕ) → self.old.sets ≡ plain addrs self.old.shape
             → self.new.sets ≡ plain (addrs ++ addr ∷ []) self.old.shape }
     {
-        let block = self.geometry.block_of(addr);
-        let home = self.geometry.home_of(block) as usize;
-        let ways = usize::from(self.geometry.ways());
-        let lane = &mut self.sets[home];
-        lane.touch(ways, block)
+        let block = self.lists.geometry().block_of(addr);
+        self.lists.touch(block)
     }
 
     /// Empties all sets.
     pub fn clear(&mut self)
         ensures { self.new ≡ record self.old { sets = empty_sets self.old.shape } }
     {
-        for lane in self.sets.iter_mut() {
-            lane.clear();
-        }
+        self.lists.clear();
     }
 
     /// Puts a block behind the others of its set.
     pub fn append(&mut self, set: u32, block: u32)
         requires set { set < sets_of self.old.shape }
         requires room { length (slice_index_or self.old.sets set []) < self.old.shape.ways }
+        requires block { block < free_block }
         requires home { home_of self.old.shape block ≡ set }
         requires absent { ¬ Contains (slice_index_or self.old.sets set []) block }
         ensures { self.new ≡ record self.old {
@@ -85,8 +77,7 @@ impl PlainCache {
               (slice_index_or self.old.sets set [] ++ block ∷ []);
         } }
     {
-        let lane = &mut self.sets[set as usize];
-        lane.append(block);
+        self.lists.append(set, block);
     }
 
     /// The blocks of a set, the most recent first.
@@ -95,6 +86,6 @@ impl PlainCache {
         ensures value { result.now ≡ slice_index_or self.now.sets set [] }
         ensures cache { IsCache self.now }
     {
-        self.sets[set as usize].as_slice()
+        self.lists.list(set)
     }
 }

@@ -1,4 +1,4 @@
-ghost use Rattle.std.specs.Prelude.{◌≡◌, ℕ, ◌^◌, ◌<◌, ◌≤◌};
+ghost use Rattle.std.specs.Prelude.{◌≡◌, ℕ, ◌+◌, ◌*◌, ◌^◌, ◌<◌, ◌≤◌};
 ghost use Rattle.std.specs.Option.{SomeIff};
 ghost use Rattle.lru_plain.specs.Shape.{Shape, IsShape, sets_of, block_of, home_of};
 
@@ -89,5 +89,16 @@ impl Geometry {
         ensures below { result < sets_of self.now }
     {
         block & (self.sets() - 1)
+    }
+
+    /// Where the places of a set begin in a row that has as many to each set as there are ways.
+    #[inline]
+    #[tactic(auto, using(crate::proofs::ListsLemmas::start_fits))]
+    pub fn start_of(&self, set: u32) -> usize
+        requires { set < sets_of self.now }
+        ensures value { result ≡ set * self.now.ways }
+        ensures within { result + self.now.ways ≤ sets_of self.now * self.now.ways }
+    {
+        set as usize * usize::from(self.ways())
     }
 }

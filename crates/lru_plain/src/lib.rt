@@ -5,9 +5,12 @@
 
 mod cache;
 mod geometry;
-mod lane;
+mod listed;
+mod lists;
 #[cfg(test)]
 mod tests;
 
 pub use cache::PlainCache;
 pub use geometry::Geometry;
+pub use listed::Listed;
+pub use lists::Lists;

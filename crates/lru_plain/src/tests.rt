@@ -19,7 +19,8 @@ fn append(cache: &mut PlainCache, set: u32, block: u32) -> bool {
     let may = set < geometry.sets()
         && cache.set(set).len() < usize::from(geometry.ways())
         && geometry.home_of(block) == set
-        && !cache.set(set).contains(&block);
+        && !cache.set(set).contains(&block)
+        && block < u32::MAX;
     if may {
         cache.append(set, block);
     }

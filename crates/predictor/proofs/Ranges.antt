@@ -9,14 +9,11 @@ use Rattle.std.proofs.lemmas.List.{get_or-replicate, length-replicate, get_or-se
 use Rattle.std.proofs.lemmas.List.Elements.{All-set, All-take, All-drop, All-replicate, All-nil, All-push}
 use Rattle.std.proofs.lemmas.Nat.{pow_pos}
 use Rattle.std.proofs.Math.Nat.{mod-lt}
-use Rattle.rv_exec.specs.declared.event.Event.{Event}
-use Rattle.rv_exec.specs.declared.event.Flow.{Flow}
-use Rattle.rv_exec.specs.declared.event.Flow.TheVariants.{Straight, Branch, Jal, Jalr}
 use Rattle.predictor.specs.declared.kind.PredictorKind.{PredictorKind}
 use Rattle.predictor.specs.declared.kind.Scheme.{Scheme}
 use Rattle.predictor.specs.declared.kind.Scheme.TheVariants.{Bimodal, Gshare}
 use Rattle.predictor.specs.Tables.{Tables, no_target, empty_tables}
-use Rattle.predictor.specs.Rules.{counted, lengthened, after_branch, pushed_if, popped, after_jump, flow_learnt, observed, counter_for, counter_place, target_place}
+use Rattle.predictor.specs.Rules.{counted, lengthened, after_branch, pushed_if, popped, after_jump, counter_for, counter_place, target_place}
 use Rattle.predictor.specs.Parts.{IsInRange, is_counter, is_instruction, is_entry, histories}
 
 none_yet : (scheme : Scheme) (bits : ℕ) → nat_lt 0 (histories scheme bits) ≡ true
@@ -126,7 +123,7 @@ target_in_range t pc next place own all within =
           ∙ all place within
     ]
 
-jump_in_range :
+pub jump_in_range :
     (t : Tables) (pc next : ℕ) → pc % 4 ≡ 0 → next % 4 ≡ 0 → IsInRange t → IsInRange (after_jump t pc next)
 jump_in_range t pc next h k range =
     let own : is_entry t.kind (target_place t pc) (pc, next) ≡ true = own_entry t.kind pc next h k in
@@ -138,18 +135,3 @@ jump_in_range t pc next h k range =
           length-set t.targets (target_place t pc) (pc, next) in omega (arith, len, h));
       stack = range.stack;
     }
-
-flow_in_range :
-    (t : Tables) (flow : Flow) (pc next : ℕ) → IsInRange t → pc % 4 ≡ 0 → next % 4 ≡ 0
-    → IsInRange (flow_learnt t flow pc next)
-flow_in_range t Straight pc next range h k = range
-flow_in_range t (Branch taken) pc next range h k = branch_in_range t pc taken range
-flow_in_range t (Jal push) pc next range h k = push_in_range push t pc h range
-flow_in_range t (Jalr true push) pc next range h k = push_in_range push (popped t) pc h (pop_in_range t range)
-flow_in_range t (Jalr false push) pc next range h k =
-    push_in_range push (after_jump t pc next) pc h (jump_in_range t pc next h k range)
-
-pub observed_in_range :
-    (t : Tables) (event : Event) → IsInRange t → event.pc % 4 ≡ 0 → event.next % 4 ≡ 0
-    → IsInRange (observed t event)
-observed_in_range t event range h k = flow_in_range t event.control event.pc event.next range h k

@@ -6,7 +6,7 @@ use Rattle.predictor.specs.declared.kind.PredictorKind.{PredictorKind}
 use Rattle.predictor.specs.declared.kind.Scheme.{Scheme}
 use Rattle.predictor.specs.declared.kind.Scheme.TheVariants.{Bimodal, Gshare}
 use Rattle.predictor.specs.declared.parts.BadPart.{BadPart}
-use Rattle.predictor.specs.Tables.{Tables, no_target}
+use Rattle.predictor.specs.Tables.{Tables, IsTables, no_target}
 
 abbrev pub is_counter : ℕ → Bool
 is_counter counter = nat_le counter 3
@@ -66,6 +66,11 @@ pub record IsInRange (t : Tables) : Type 0 where
       (place : ℕ) → place < length t.targets
       → is_entry t.kind place (slice_index_or t.targets place no_target) ≡ true
   pub stack : AllPass is_instruction t.stack
+
+-- what holds of every image: its lengths are those of its kind, and its parts are in their ranges
+pub record IsImage (t : Tables) : Type 0 where
+  pub tables : IsTables t
+  pub ranges : IsInRange t
 
 abbrev pub unless : Option BadPart → Tables → Result Tables BadPart
 unless None t = Ok t

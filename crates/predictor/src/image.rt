@@ -1,8 +1,8 @@
 ghost use Rattle.std.specs.Prelude.{◌≡◌, ◌^◌, ◌≤◌, ◌↔◌, length, IfOk};
 ghost use Rattle.smarts_base.specs.Outcome.{Answers};
 ghost use Rattle.predictor.specs.Kind.{IsKind};
-ghost use Rattle.predictor.specs.Tables.{Tables, IsTables, tables_with, empty_tables};
-ghost use Rattle.predictor.specs.Parts.{image_or_fault, fault_of, IsInRange};
+ghost use Rattle.predictor.specs.Tables.{tables_with, empty_tables};
+ghost use Rattle.predictor.specs.Parts.{image_or_fault, fault_of, IsInRange, IsImage};
 
 use crate::kind::PredictorKind;
 use crate::parts::{BadPart, first_fault};
@@ -25,7 +25,7 @@ pub struct PredictorImage {
 }
 
 impl Model for PredictorImage {
-    ghost use Rattle.predictor.specs.Tables.{Tables, IsTables};
+    ghost use Rattle.predictor.specs.Tables.{Tables};
 
     ghost Value = { Tables };
 
@@ -33,7 +33,9 @@ impl Model for PredictorImage {
 
     ghost view = { tables_of };
 
-    ghost invariant = { λ fields. IsTables (tables_of fields) };
+    ghost use Rattle.predictor.specs.Parts.{IsImage};
+
+    ghost invariant = { λ fields. IsImage (tables_of fields) };
 }
 
 /// The entry for no jump.
@@ -41,6 +43,7 @@ const NO_TARGET: (u32, u32) = (1, 0);
 
 impl PredictorImage {
     /// The tables before any event.
+    #[tactic(auto, using(crate::proofs::Ranges::empty_in_range))]
     pub(crate) fn empty(alloc: Global, kind: PredictorKind) -> Result<PredictorImage, NoMemory>
         requires { IsKind kind }
         ensures { IfOk result (λ image. image ≡ empty_tables kind) }
@@ -65,7 +68,7 @@ impl PredictorImage {
         targets: &[(u32, u32)],
         stack: &[u32],
     ) -> Result<PredictorImage, NoMemory>
-        requires { IsTables (tables_with kind counters.now history targets.now stack.now) }
+        requires { IsImage (tables_with kind counters.now history targets.now stack.now) }
         ensures { IfOk result (λ image.
             image ≡ tables_with kind counters.now history targets.now stack.now) }
     {
@@ -136,7 +139,7 @@ impl PredictorImage {
 
     pub fn kind(&self) -> PredictorKind
         ensures value { result ≡ self.now.kind }
-        ensures tables { IsTables self.now }
+        ensures image { IsImage self.now }
     {
         self.kind
     }
@@ -144,7 +147,7 @@ impl PredictorImage {
     /// `2^bits` counters, each 0 to 3.
     pub fn counters(&self) -> &[u8]
         ensures value { result.now ≡ self.now.counters }
-        ensures tables { IsTables self.now }
+        ensures image { IsImage self.now }
     {
         self.counters.as_slice()
     }
@@ -152,7 +155,7 @@ impl PredictorImage {
     /// The outcomes of the latest branches, the last in bit 0. It is 0 under the bimodal scheme.
     pub fn history(&self) -> u32
         ensures value { result ≡ self.now.history }
-        ensures tables { IsTables self.now }
+        ensures image { IsImage self.now }
     {
         self.history
     }
@@ -160,7 +163,7 @@ impl PredictorImage {
     /// `2^target_log` entries, each the pc of a jump and where it led, or 1 and 0 for none.
     pub fn targets(&self) -> &[(u32, u32)]
         ensures value { result.now ≡ self.now.targets }
-        ensures tables { IsTables self.now }
+        ensures image { IsImage self.now }
     {
         self.targets.as_slice()
     }
@@ -168,7 +171,7 @@ impl PredictorImage {
     /// The return addresses from the bottom.
     pub fn stack(&self) -> &[u32]
         ensures value { result.now ≡ self.now.stack }
-        ensures tables { IsTables self.now }
+        ensures image { IsImage self.now }
     {
         self.stack.as_slice()
     }

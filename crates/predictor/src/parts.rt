@@ -2,7 +2,7 @@ ghost use Rattle.std.specs.Prelude.{◌≡◌, ◌^◌, ◌<◌, ◌≤◌, leng
 ghost use Rattle.smarts_base.specs.Least.{least_below};
 ghost use Rattle.predictor.specs.Kind.{IsKind};
 ghost use Rattle.predictor.specs.Tables.{tables_with};
-ghost use Rattle.predictor.specs.Parts.{is_history, is_entry, bad_counter, bad_entry, bad_address, fault_of};
+ghost use Rattle.predictor.specs.Parts.{is_counter, is_history, is_instruction, is_source, is_target, is_entry, bad_counter, bad_entry, bad_address, fault_of};
 
 use crate::direction::low_bits;
 use crate::kind::{PredictorKind, Scheme};
@@ -16,19 +16,27 @@ pub struct BadPart {
     pub index: u32,
 }
 
+/// Whether this may be a counter: 0 to 3.
+pub fn is_counter(counter: u8) -> bool
+    ensures { result ≡ is_counter counter }
+{
+    counter <= 3
+}
+
 fn first_bad_counter(counters: &[u8]) -> Option<u32>
     requires { length counters.now < 2 ^ 32 }
     ensures { result ≡ least_below (length counters.now) (bad_counter counters.now) }
 {
     for (i, counter) in counters.iter().enumerate() {
-        if *counter > 3 {
+        if !is_counter(*counter) {
             return Some(i as u32);
         }
     }
     None
 }
 
-fn is_history(kind: PredictorKind, history: u32) -> bool
+/// Whether this may be a history: below `2^bits`, or 0 under the bimodal scheme.
+pub fn is_history(kind: PredictorKind, history: u32) -> bool
     requires { IsKind kind }
     ensures { result ≡ is_history kind history }
 {
@@ -38,17 +46,40 @@ fn is_history(kind: PredictorKind, history: u32) -> bool
     }
 }
 
+/// Whether an instruction may stand at this address: at a multiple of 4.
+pub fn is_instruction(address: u32) -> bool
+    ensures { result ≡ is_instruction address }
+{
+    address % 4 == 0
+}
+
+/// Whether the entry at this place of the target table may have this pc: that of an instruction whose place
+/// it is, or 1 for no jump.
+pub fn is_source(kind: PredictorKind, place: u32, pc: u32) -> bool
+    requires { IsKind kind }
+    ensures { result ≡ is_source kind place pc }
+{
+    pc == 1 || is_instruction(pc) && low_bits(pc / 4, kind.target_log) == place
+}
+
+/// Whether a jump from this pc may lead here: to an instruction, or to 0 behind 1.
+pub fn is_target(pc: u32, target: u32) -> bool
+    ensures { result ≡ is_target pc target }
+{
+    if pc == 1 {
+        target == 0
+    } else {
+        is_instruction(target)
+    }
+}
+
 /// Whether an entry may stand at this place of the target table.
 fn is_entry(kind: PredictorKind, place: u32, entry: (u32, u32)) -> bool
     requires { IsKind kind }
     ensures { result ≡ is_entry kind place entry }
 {
     let (pc, target) = entry;
-    if pc == 1 {
-        target == 0
-    } else {
-        pc % 4 == 0 && low_bits(pc / 4, kind.target_log) == place && target % 4 == 0
-    }
+    is_source(kind, place, pc) && is_target(pc, target)
 }
 
 fn first_bad_entry(kind: PredictorKind, targets: &[(u32, u32)]) -> Option<u32>
@@ -69,7 +100,7 @@ fn first_bad_address(stack: &[u32]) -> Option<u32>
     ensures { result ≡ least_below (length stack.now) (bad_address stack.now) }
 {
     for (i, address) in stack.iter().enumerate() {
-        if *address % 4 != 0 {
+        if !is_instruction(*address) {
             return Some(i as u32);
         }
     }

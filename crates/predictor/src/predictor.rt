@@ -2,7 +2,7 @@ ghost use Rattle.std.specs.Prelude.{◌≡◌, ◌%◌, List, [], ◌∷◌, ◌
 ghost use Rattle.rv_exec.specs.declared.event.Event.{Event};
 ghost use Rattle.predictor.specs.Kind.{IsKind};
 ghost use Rattle.predictor.specs.Tables.{empty_tables};
-ghost use Rattle.predictor.specs.Parts.{IsInRange};
+ghost use Rattle.predictor.specs.Parts.{IsImage};
 ghost use Rattle.predictor.specs.Rules.{is_mispredicted, observed, trained};
 
 use crate::image::PredictorImage;
@@ -29,21 +29,23 @@ impl Model for Predictor {
 
 impl Predictor {
     /// A predictor that has seen no event.
-    #[tactic(auto, unfolding(crate::specs::Rules::trained), using(crate::proofs::Ranges::empty_in_range))]
+    #[tactic(auto, unfolding(crate::specs::Rules::trained))]
     pub fn new(alloc: Global, kind: PredictorKind) -> Result<Predictor, NoMemory>
         requires { IsKind kind }
         ensures empty { IfOk result (λ predictor. predictor ≡ empty_tables kind) }
         ensures trained { IfOk result (λ predictor. predictor ≡ trained kind []) }
-        ensures in_range { IfOk result (λ predictor. IsInRange predictor) }
     {
         let tables = PredictorImage::empty(alloc, kind)?;
         Ok(Predictor { tables })
     }
 
-    /// Learns from the event of one instruction, and tells whether it was mispredicted.
+    /// Learns from the event of one instruction, and tells whether it was mispredicted. Instructions stand
+    /// at multiples of 4.
     #[inline]
     #[tactic(auto, using(crate::proofs::Trains::trained_more))]
     pub fn observe(&mut self, event: &Event) -> bool
+        requires pc { event.now.pc % 4 ≡ 0 }
+        requires next { event.now.next % 4 ≡ 0 }
         ensures missed { result ≡ is_mispredicted self.old event.now }
         ensures tables { self.new ≡ observed self.old event.now }
         ensures kind { self.new.kind ≡ self.old.kind }
@@ -51,17 +53,14 @@ impl Predictor {
         // After the events of a list, and then this one, it is trained by the longer list.
         ensures trained { (events : List Event) → self.old ≡ trained self.old.kind events
             → self.new ≡ trained self.old.kind (events ++ event.now ∷ []) }
-
-        // The event of an instruction keeps all parts in their ranges.
-        ensures in_range { IsInRange self.old → event.now.pc % 4 ≡ 0 → event.now.next % 4 ≡ 0
-            → IsInRange self.new }
     {
         self.tables.observe(event)
     }
 
     /// The tables as they are.
     pub fn image(&self) -> Result<PredictorImage, NoMemory>
-        ensures { IfOk result (λ image. image ≡ self.now) }
+        ensures value { IfOk result (λ image. image ≡ self.now) }
+        ensures image { IfOk result (λ image. IsImage image) }
     {
         self.tables.copied()
     }

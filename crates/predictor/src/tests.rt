@@ -1,4 +1,4 @@
-ghost use Rattle.std.specs.Prelude.{◌≡◌, ◌≤◌};
+ghost use Rattle.std.specs.Prelude.{◌≡◌, ◌%◌, ◌≤◌};
 ghost use Rattle.predictor.specs.Kind.{IsKind};
 
 use super::*;
@@ -50,9 +50,13 @@ fn small(scheme: Scheme, depth: u8) -> PredictorKind
     }
 }
 
-fn event(pc: u32, control: Flow, next: u32) -> Event {
+/// An event at this pc; instructions stand at multiples of 4.
+fn event(pc: u32, control: Flow, next: u32) -> Event
+    ensures pc { result.pc % 4 ≡ 0 }
+    ensures next { result.next % 4 ≡ 0 }
+{
     Event {
-        pc,
+        pc: pc / 4 * 4,
         fetched: 0,
         class: Class::Control,
         first: None,
@@ -60,7 +64,7 @@ fn event(pc: u32, control: Flow, next: u32) -> Event {
         dest: None,
         access: None,
         control,
-        next,
+        next: next / 4 * 4,
         wrote: None,
     }
 }

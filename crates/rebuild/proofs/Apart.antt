@@ -1,7 +1,9 @@
 -- Blocks of united sets: each belongs to the small set, and none comes twice.
-use Rattle.std.proofs.Common.{◌≡◌, ◌≢◌, ℕ, zero, suc, ◌+◌, ◌%◌, ◌<◌, ◌≤◌, eqb, leb, List, [], ◌∷◌, ◌++◌, length, take, get_or, sym, ap, ◌∙◌, inl, inr, arith, eqb-true}
+use Rattle.std.proofs.Common.{◌≡◌, ◌≢◌, ℕ, zero, suc, ◌+◌, ◌-◌, ◌^◌, ◌%◌, ⊎_elim, ◌<◌, ◌≤◌, eqb, leb, List, [], ◌∷◌, ◌++◌, length, take, get_or, sym, ap, ◌∙◌, inl, inr, arith, eqb-true}
 use Rattle.std.proofs.lemmas.Bool.{cases_Bool}
-use Rattle.lru_plain.specs.Shape.{Shape, sets_of, home_of}
+use Rattle.std.proofs.Math.Nat.{pow-le-pow_right}
+use Rattle.lru_plain.specs.Shape.{Shape, IsShape, sets_of, home_of}
+use Rattle.lru_plain.specs.Lists.{free_block}
 use Rattle.recency_record.specs.declared.entry.Entry.{Entry}
 use Rattle.recency_record.specs.Each.{Each}
 use Rattle.recency_record.specs.Slots.{placed, by_time}
@@ -9,7 +11,7 @@ use Rattle.recency_record.specs.Recency.{Recency, IsRecency, IsSet, IsEntry, IsR
 use Rattle.recency_record.proofs.Eachs.{each_weaker, each_append, each_take}
 use Rattle.rebuild.specs.Merge.{united}
 use Rattle.rebuild.specs.Pouring.{AreApart}
-use Rattle.rebuild.proofs.Placing.{each_placed, each_by_time}
+use Rattle.recency_record.proofs.SlotsLemmas.{each_placed, each_by_time}
 use Rattle.rebuild.proofs.Merging.{small_home}
 
 pub apart_take : (n : ℕ) (es : List Entry) → AreApart es → AreApart (take n es)
@@ -90,6 +92,25 @@ module _ (g : Shape) (time count class : ℕ) where
         | inr q ↦ rw q behind
       ]
 
+-- what holds of each entry of each set holds of those of united sets
+united_each : (P : Entry → Type 0) (count class first : ℕ) (sets : List (List Entry))
+    → ((k : ℕ) → k < length sets → Each P (get_or sets k [])) → Each P (united count class first sets)
+united_each P count class first [] h = tt
+united_each P count class first (es ∷ rest) h =
+    let behind : Each P (united count class (first + 1) rest) = united_each P count class (first + 1) rest (λ k below. h (suc k) (omega (arith, below))) in
+    elim (cases_Bool (eqb (first % count) class)) [
+      | inl q ↦ rw q (each_append P es (united count class (first + 1) rest) (h 0 (omega arith)) behind)
+      | inr q ↦ rw q behind
+    ]
+
+-- a record's blocks are none of a free place
+taken_block : (g : Shape) (block : ℕ) → IsShape g → block < 2 ^ (32 - g.line_log) → block < free_block
+taken_block g block shape h =
+    let line : 4 ≤ g.line_log = ⊎_elim (λ (k : (4 ≤ g.line_log) × (g.line_log ≤ 8)). k.0) (λ k. omega (arith, k)) shape.line in
+    let low : 32 - g.line_log ≤ 28 = omega (arith, line) in
+    let few : 2 ^ (32 - g.line_log) ≤ 2 ^ 28 = pow-le-pow_right {n = 2} (omega arith) low in
+    omega (arith, few, h)
+
 -- what is merged for a small set may be put into it
 module _ (r : Recency) (small : Shape) (class n : ℕ) (recency : IsRecency r) where
   own_sets : (k : ℕ) → k < length r.sets → IsSet r.shape r.time (0 + k) (get_or r.sets k [])
@@ -108,3 +129,11 @@ module _ (r : Recency) (small : Shape) (class n : ℕ) (recency : IsRecency r) w
       (each_weaker _ (λ e. home_of small e.block ≡ class) (united (sets_of small) class 0 r.sets)
       (λ e p. sym (small_home r.shape small e.block h) ∙ p.1)
       (united_own r.shape r.time (sets_of small) class 0 r.sets own_sets)))
+
+  pub merged_blocks : Each (λ e. e.block < free_block) (take n (by_time (united (sets_of small) class 0 r.sets)))
+  merged_blocks =
+      each_take (λ e. e.block < free_block) n (by_time (united (sets_of small) class 0 r.sets))
+      (each_by_time (λ e. e.block < free_block) (united (sets_of small) class 0 r.sets)
+      (united_each (λ e. e.block < free_block) (sets_of small) class 0 r.sets
+      (λ k below. each_weaker (IsEntry r.shape r.time (0 + k)) (λ e. e.block < free_block) (get_or r.sets k [])
+      (λ e h. taken_block r.shape e.block recency.shape h.block) (own_sets k below).entries)))

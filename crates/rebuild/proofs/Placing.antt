@@ -1,11 +1,12 @@
 -- Entries put into a sorted list that is cut.
-use Rattle.std.proofs.Common.{◌≡◌, ℕ, zero, suc, ◌<◌, leb, List, [], ◌∷◌, ◌++◌, take, insert, refl, ap, inl, inr}
+use Rattle.std.proofs.Common.{◌≡◌, ℕ, zero, suc, ◌<◌, leb, List, [], ◌∷◌, ◌++◌, take, refl, ap, inl, inr, ◌≤◌, le_of_lt}
 use Rattle.std.proofs.lemmas.Bool.{cases_Bool, lt-leb}
 use Rattle.recency_record.specs.declared.entry.Entry.{Entry}
 use Rattle.recency_record.specs.Each.{Each}
 use Rattle.recency_record.specs.Slots.{placed, by_time}
-use Rattle.recency_record.proofs.Sorting.{placed_first}
-use Rattle.rebuild.specs.Pouring.{poured, places_later}
+use Rattle.recency_record.proofs.Eachs.{each_weaker}
+use Rattle.recency_record.proofs.SlotsLemmas.{placed_first, each_by_time}
+use Rattle.rebuild.specs.Pouring.{poured}
 
 take_less : (n : ℕ) (xs : List Entry) → take n (take (suc n) xs) ≡ take n xs
 take_less zero xs = refl
@@ -31,27 +32,6 @@ pub poured_sorted : (n : ℕ) (es rest : List Entry) → poured n es (take n (by
 poured_sorted n [] rest = refl
 poured_sorted n (e ∷ es) rest = rw (poured_sorted n es rest) (placed_of_cut n e (by_time (es ++ rest)))
 
--- the entry put at its place
-pub inserted : (e : Entry) (es : List Entry) → insert es (places_later es e.time) e ≡ placed e es
-inserted e [] = refl
-inserted e (x ∷ xs) =
-    elim (cases_Bool (leb x.time e.time)) [
-      | inl q ↦ rw q refl
-      | inr q ↦ rw q (ap (λ (l : List Entry). x ∷ l) (inserted e xs))
-    ]
-
-pub each_placed : (P : Entry → Type 0) (e : Entry) (es : List Entry) → P e → Each P es → Each P (placed e es)
-each_placed P e [] p h = (p, tt)
-each_placed P e (x ∷ xs) p h =
-    elim (cases_Bool (leb x.time e.time)) [
-      | inl q ↦ rw q (p, h)
-      | inr q ↦ rw q (h.0, each_placed P e xs p h.1)
-    ]
-
-pub each_by_time : (P : Entry → Type 0) (es : List Entry) → Each P es → Each P (by_time es)
-each_by_time P [] h = tt
-each_by_time P (e ∷ es) h = each_placed P e (by_time es) h.0 (each_by_time P es h.1)
-
 -- an entry behind earlier ones is still the first
 pub first_behind : (x : Entry) (es rest less : List Entry) → by_time rest ≡ x ∷ by_time less
     → Each (λ e. e.time < x.time) es → by_time (es ++ rest) ≡ x ∷ by_time (es ++ less)
@@ -60,4 +40,6 @@ first_behind x (e ∷ es) rest less h early =
     rw (first_behind x es rest less h early.1, lt-leb x.time e.time early.0) refl
 
 pub first_of_all : (x : Entry) (es : List Entry) → Each (λ e. e.time < x.time) es → by_time (x ∷ es) ≡ x ∷ by_time es
-first_of_all x es early = placed_first x (by_time es) (each_by_time (λ e. e.time < x.time) es early)
+first_of_all x es early =
+    placed_first x (by_time es)
+    (each_by_time (λ e. e.time ≤ x.time) es (each_weaker (λ e. e.time < x.time) (λ e. e.time ≤ x.time) es (λ e h. le_of_lt h) early))

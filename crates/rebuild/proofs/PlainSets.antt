@@ -13,7 +13,8 @@ use Rattle.recency_record.specs.Recency.{IsRanked, others, recent, blocks_of}
 use Rattle.recency_record.proofs.Eachs.{each_weaker}
 use Rattle.recency_record.proofs.Ranks.{others_all, ranked_filter, ranked_take}
 use Rattle.recency_record.proofs.LastUses.{by_push, last_uses_none, last_uses_ranked}
-use Rattle.recency_record.proofs.Referring.{set_in_places, recent_here, recent_elsewhere, home_below, entry_at}
+use Rattle.recency_record.proofs.Referring.{recent_here, recent_elsewhere, home_below, entry_at}
+use Rattle.lru_plain.proofs.Segments.{set_in_places}
 
 abbrev pub blocks_in : List Entry → List ℕ
 blocks_in es = map (λ e. e.block) es

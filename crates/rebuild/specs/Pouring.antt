@@ -1,5 +1,5 @@
 -- How the merge goes: the sets' entries are put into one short list, from the last set to the first.
-use Rattle.std.specs.Prelude.{◌≢◌, ℕ, suc, nat_le, if◌then◌else◌, List, [], ◌∷◌, take}
+use Rattle.std.specs.Prelude.{◌≢◌, ℕ, List, [], ◌∷◌, take}
 use Rattle.recency_record.specs.declared.entry.Entry.{Entry}
 use Rattle.recency_record.specs.Each.{Each}
 use Rattle.recency_record.specs.Slots.{placed}
@@ -9,11 +9,6 @@ use Rattle.recency_record.specs.Slots.{placed}
 abbrev pub poured : ℕ → List Entry → List Entry → List Entry
 poured ways [] list = list
 poured ways (e ∷ es) list = take ways (placed e (poured ways es list))
-
--- how many entries come before the first that is no later than this time
-abbrev pub places_later : List Entry → ℕ → ℕ
-places_later [] time = 0
-places_later (x ∷ xs) time = if nat_le x.time time then 0 else suc (places_later xs time)
 
 -- no block comes twice
 abbrev pub AreApart : List Entry → Type 0

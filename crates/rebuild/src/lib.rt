@@ -4,7 +4,8 @@
 
 mod merge;
 mod rebuilding;
+mod source;
 #[cfg(test)]
 mod tests;
 
-pub use rebuilding::{Beyond, fits, rebuild, rebuilds_plain, scratch_len};
+pub use rebuilding::{Beyond, fits, rebuild, rebuild_live, rebuilds_plain, scratch_len};

@@ -10,15 +10,20 @@ fn shape(line_log: u8, sets_log: u8, ways: u8) -> Result<Geometry, Fail> {
     Ok(Geometry::new(line_log, sets_log, ways).ok_or("no such geometry")?)
 }
 
-/// What a record of these addresses tells.
-fn snapshot_of(alloc: Global, geometry: Geometry, addrs: &[u32]) -> Result<Snapshot, Fail> {
+/// A record of these addresses.
+fn record_of(alloc: Global, geometry: Geometry, addrs: &[u32]) -> Result<Record, Fail> {
     let mut record = Record::new(alloc, geometry)?;
     for addr in addrs {
         if record.time() < 1 << 63 {
             record.refer(*addr);
         }
     }
-    Ok(record.snapshot(alloc)?)
+    Ok(record)
+}
+
+/// What a record of these addresses tells.
+fn snapshot_of(alloc: Global, geometry: Geometry, addrs: &[u32]) -> Result<Snapshot, Fail> {
+    Ok(record_of(alloc, geometry, addrs)?.snapshot()?)
 }
 
 /// Whether there is such a set, and it has these blocks.
@@ -77,6 +82,23 @@ fn follows(alloc: Global, told: &Snapshot, small: Geometry, addrs: &[u32]) -> Re
     Ok(fate == Ok(()) && are_same(&rebuilt, &plain))
 }
 
+/// As `follows`, by the record itself.
+fn follows_live(
+    alloc: Global,
+    live: &Record,
+    small: Geometry,
+    addrs: &[u32],
+) -> Result<bool, Fail> {
+    let mut plain = PlainCache::new(alloc, small)?;
+    for addr in addrs {
+        plain.touch(*addr);
+    }
+    let mut rebuilt = PlainCache::new(alloc, small)?;
+    rebuilt.touch(0xFFFF_FFFF);
+    let fate = rebuild_live(live, &mut [7], &mut rebuilt);
+    Ok(fate == Ok(()) && are_same(&rebuilt, &plain))
+}
+
 /// Whether every smaller cache follows.
 fn all_follow(
     alloc: Global,
@@ -113,6 +135,12 @@ fn follows_every_smaller_cache(rt: HostRuntime) -> Result<(), Fail> {
         let large = shape(line_log, sets_log, ways)?;
         let told = snapshot_of(rt.alloc(), large, addrs.as_slice())?;
         assert!(rt; all_follow(rt.alloc(), &told, large, addrs.as_slice())?);
+        let live = record_of(rt.alloc(), large, addrs.as_slice())?;
+        let small = shape(line_log, 0, ways)?;
+        assert!(rt; follows_live(rt.alloc(), &live, small, addrs.as_slice())?);
+        let other = shape(12, 0, ways)?;
+        let mut cache = PlainCache::new(rt.alloc(), other)?;
+        assert_eq!(rt; rebuild_live(&live, &mut [], &mut cache), Err(Beyond));
     }
     Ok(())
 }

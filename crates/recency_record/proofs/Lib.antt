@@ -2,9 +2,9 @@ pub mod Eachs
 pub mod Ranks
 pub mod LastUses
 pub mod Referring
-pub mod Sorting
+pub mod SlotsLemmas
+pub mod RecordLemmas
 pub mod Rows
 pub mod Judgements
-pub mod Shifts
 pub mod LastPlaces
 pub mod FirstFaults

@@ -4,6 +4,7 @@ use Rattle.std.specs.List.{range_with_len}
 use Rattle.std.proofs.lemmas.Bool.{cases_eq, ne_eqb}
 use Rattle.std.proofs.lemmas.List.{map-append, length_push, length-map, length-take, get_or-set_same, get_or-set_other, length-set, get_or_default}
 use Rattle.std.proofs.lemmas.List.FromFn.{get_or-map-range_with_len}
+use Rattle.lru_plain.proofs.Segments.{set_in_places}
 use Rattle.lru_plain.specs.Shape.{Shape, IsShape, sets_of, block_of, home_of}
 use Rattle.recency_record.specs.declared.entry.Entry.{Entry}
 use Rattle.recency_record.specs.Uses.{last_uses, entries_of}
@@ -11,36 +12,6 @@ use Rattle.recency_record.specs.Recency.{Recency, IsRecency, IsSet, IsEntry, oth
 use Rattle.recency_record.proofs.Eachs.{each_weaker, each_filter, each_take, filter_swap, filter_weaker}
 use Rattle.recency_record.proofs.Ranks.{ranked_filter, ranked_take, ranked_more, used_of_cut, other_test}
 use Rattle.recency_record.proofs.LastUses.{last_uses_more, last_uses_ranked, last_uses_none}
-
--- lists made by two functions of the place that differ at one place alone
-module _ {X : Type 0} (f g : ℕ → X) where
-  same_in_range : (a n : ℕ) → ((j : ℕ) → a ≤ j → j < a + n → g j ≡ f j) → map f (range_with_len a n) ≡ map g (range_with_len a n)
-  same_in_range a zero h = refl
-  same_in_range a (suc n) h =
-      rw (h a (omega arith) (omega arith), same_in_range (a + 1) n (λ j low below. h j (omega arith) (omega arith))) refl
-
-  pub set_in_range :
-      (a n k : ℕ) (x : X) → g (a + k) ≡ x → ((j : ℕ) → (j ≡ a + k → ⊥) → j < a + n → g j ≡ f j)
-      → set (map f (range_with_len a n)) k x ≡ map g (range_with_len a n)
-  set_in_range a zero k x here rest = refl
-  set_in_range a (suc n) zero x here rest =
-      let first : a ≡ a + 0 = omega arith in
-      let at : g a ≡ x = ap g first ∙ here in
-      rw (at, same_in_range (a + 1) n (λ j low below. rest j (λ e. omega (arith, e, low)) (omega arith))) refl
-  set_in_range a (suc n) (suc k) x here rest =
-      let along : (a + 1) + k ≡ a + suc k = omega arith in
-      rw (
-        rest a (λ e. omega (arith, e)) (omega arith),
-        set_in_range (a + 1) n k x (ap g along ∙ here)
-            (λ j other below. rest j (λ e. other (omega (arith, e))) (omega arith)),
-      ) refl
-
-  pub set_in_places :
-      (n k : ℕ) (x : X) → g k ≡ x → ((j : ℕ) → (j ≡ k → ⊥) → j < n → g j ≡ f j)
-      → set (map f (range_with_len 0 n)) k x ≡ map g (range_with_len 0 n)
-  set_in_places n k x here rest =
-      let same : 0 + k ≡ k = omega arith in
-      set_in_range 0 n k x (ap g same ∙ here) (λ j other below. rest j (λ e. other (e ∙ sym same)) (omega arith))
 
 -- the entries of a set after one more use, in this set and in another
 entries_here :

@@ -158,3 +158,19 @@ counts_short g counts i shape long h each =
     let within : 255 ≤ 255 = omega arith in
     let bound : length counts * 255 ≤ 4096 * 255 = mul-le-mul few within in
     omega (arith, part, whole, bound)
+
+-- one more set behind others
+module _ (sets : List (List Entry)) (es : List Entry) (starts : List ℕ) (row : List Entry)
+    (at : starts ≡ starts_from 0 (map length sets)) (is : row ≡ in_a_row sets) where
+  pub starts_pushed : starts ++ length (row ++ es) ∷ [] ≡ starts_from 0 (map length (sets ++ es ∷ []))
+  starts_pushed =
+      let more : map length (sets ++ es ∷ []) ≡ map length sets ++ length es ∷ [] = map-append length sets (es ∷ []) in
+      let long : length (row ++ es) ≡ (0 + sum (map length sets)) + length es =
+      omega (arith, length-append row es, ap length is, row_length sets) in
+      rw (more, starts_push 0 (length es) (map length sets), long, at) refl
+
+  pub row_pushed : row ++ es ≡ in_a_row (sets ++ es ∷ [])
+  row_pushed = ap (λ (l : List Entry). l ++ es) is ∙ sym (row_push sets es)
+
+  pub parts_pushed : parts (starts ++ length (row ++ es) ∷ []) (row ++ es) ≡ sets ++ es ∷ []
+  parts_pushed = sets_parts (sets ++ es ∷ []) (starts ++ length (row ++ es) ∷ []) (row ++ es) starts_pushed row_pushed

@@ -13,18 +13,27 @@ abbrev pub belongs : Shape → ℕ → ℕ → Bool
 belongs g set block = nat_lt block (2 ^ (32 - g.line_log)) && (home_of g block == set)
 
 -- the entry just before is no later
-abbrev pub is_no_later : Option Entry → Entry → Bool
-is_no_later None e = false
-is_no_later (Some before) e = nat_le before.time e.time
+abbrev pub is_no_later : Option Entry → ℕ → Bool
+is_no_later None time = false
+is_no_later (Some before) time = nat_le before.time time
+
+-- the first rule that a block breaks behind the entries before it in its set
+abbrev pub block_fault : Shape → ℕ → List Entry → ℕ → Option RecordFault
+block_fault g set before block =
+    if not (belongs g set block) then Some (WrongSet set (length before))
+    else if list_any (λ x. x.block == block) before then Some (Repeated set (length before))
+    else None
+
+-- the first rule that a time breaks behind the entries before it in its set
+abbrev pub time_fault : ℕ → ℕ → List Entry → ℕ → Option RecordFault
+time_fault now set before time =
+    if not (nat_lt time now) then Some (TimeRange set (length before))
+    else if is_no_later (slice_get before (length before - 1)) time then Some (NotDescending set (length before))
+    else None
 
 -- the first rule that an entry breaks behind those before it in its set
 unfoldable pub entry_fault : Shape → ℕ → ℕ → List Entry → Entry → Option RecordFault
-entry_fault g time set before e =
-    if not (belongs g set e.block) then Some (WrongSet set (length before))
-    else if list_any (λ x. x.block == e.block) before then Some (Repeated set (length before))
-    else if not (nat_lt e.time time) then Some (TimeRange set (length before))
-    else if is_no_later (slice_get before (length before - 1)) e then Some (NotDescending set (length before))
-    else None
+entry_fault g now set before e = or_else (block_fault g set before e.block) (time_fault now set before e.time)
 
 -- the first that an entry of a set breaks, behind those before
 unfoldable pub entries_fault : Shape → ℕ → ℕ → List Entry → List Entry → Option RecordFault
@@ -56,3 +65,11 @@ unless (Some fault) value = Err fault
 abbrev pub judged : Shape → ℕ → List (List Entry) → Result Recency RecordFault
 judged g time sets =
     unless (sets_fault g time 0 sets) (record { shape = g; time = time; sets = sets })
+
+-- the numbers of the rules, in the order in which they are judged
+abbrev pub number_of : RecordFault → ℕ
+number_of (TooMany set place) = 1
+number_of (WrongSet set place) = 2
+number_of (Repeated set place) = 3
+number_of (TimeRange set place) = 4
+number_of (NotDescending set place) = 5

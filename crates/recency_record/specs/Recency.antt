@@ -76,8 +76,12 @@ pub record IsSet (g : Shape) (time set : ℕ) (es : List Entry) : Type 0 where
   pub ranked : IsRanked es
   pub entries : Each (IsEntry g time set) es
 
+-- these may be the entries of all sets
+abbrev pub AreSets : Shape → ℕ → List (List Entry) → Type 0
+AreSets g time sets = (set : ℕ) → set < sets_of g → IsSet g time set (slice_index_or sets set [])
+
 -- what holds of every record and of every snapshot
 pub record IsRecency (r : Recency) : Type 0 where
   pub shape : IsShape r.shape
   pub count : length r.sets ≡ sets_of r.shape
-  pub sets : (set : ℕ) → set < sets_of r.shape → IsSet r.shape r.time set (slice_index_or r.sets set [])
+  pub sets : AreSets r.shape r.time r.sets

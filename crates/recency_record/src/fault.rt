@@ -1,17 +1,33 @@
-use thiserror::Error;
+ghost use Rattle.std.specs.Prelude.{◌≡◌};
+ghost use Rattle.recency_record.specs.Faults.{number_of};
 
 /// Why lists of entries are no snapshot: a set, and the first place in it at which it breaks a rule. A set
 /// with too many entries has place 0.
-#[derive(Clone, Copy, Debug, PartialEq, Eq, Error)]
+#[derive(Clone, Copy, Debug, PartialEq, Eq)]
 pub enum RecordFault {
-    #[error("set {set} has more entries than ways")]
+    /// The set has more entries than ways.
     TooMany { set: u32, place: u8 },
-    #[error("the block at place {place} of set {set} doesn't belong there")]
+    /// The block doesn't belong to the set.
     WrongSet { set: u32, place: u8 },
-    #[error("the block at place {place} of set {set} stands before")]
+    /// The block stands before in the set.
     Repeated { set: u32, place: u8 },
-    #[error("the time at place {place} of set {set} isn't before the record's")]
+    /// The time isn't below that of the record.
     TimeRange { set: u32, place: u8 },
-    #[error("the time at place {place} of set {set} isn't before the one in front of it")]
+    /// The time isn't below the one in front of it.
     NotDescending { set: u32, place: u8 },
+}
+
+impl RecordFault {
+    /// The number of the rule: 1 to 5, in the order in which they are judged.
+    pub fn number(&self) -> u8
+        ensures { result ≡ number_of self.now }
+    {
+        match self {
+            RecordFault::TooMany { .. } => 1,
+            RecordFault::WrongSet { .. } => 2,
+            RecordFault::Repeated { .. } => 3,
+            RecordFault::TimeRange { .. } => 4,
+            RecordFault::NotDescending { .. } => 5,
+        }
+    }
 }

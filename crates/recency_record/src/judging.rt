@@ -1,7 +1,7 @@
 ghost use Rattle.std.specs.Prelude.{◌≡◌, ◌<◌, ◌-◌, ◌==◌, length, slice_get, sum};
 ghost use Rattle.std.specs.List.{list_any};
 ghost use Rattle.lru_plain.specs.Shape.{sets_of};
-ghost use Rattle.recency_record.specs.Faults.{belongs, is_no_later, entry_fault, set_fault, sets_fault, dealt};
+ghost use Rattle.recency_record.specs.Faults.{belongs, is_no_later, block_fault, time_fault, entry_fault, set_fault, sets_fault, dealt};
 
 use crate::entry::Entry;
 use crate::fault::RecordFault;
@@ -19,11 +19,11 @@ fn belongs(geometry: Geometry, set: u32, block: u32) -> bool
 }
 
 /// Whether the entry just before is no later.
-fn is_no_later(before: &[Entry], entry: Entry) -> bool
-    ensures { result ≡ is_no_later (slice_get before.now (length before.now - 1)) entry }
+fn is_no_later(before: &[Entry], time: u64) -> bool
+    ensures { result ≡ is_no_later (slice_get before.now (length before.now - 1)) time }
 {
     match before.last() {
-        Some(last) => last.time <= entry.time,
+        Some(last) => last.time <= time,
         None => false,
     }
 }
@@ -33,6 +33,43 @@ fn repeats(before: &[Entry], block: u32) -> bool
     ensures { result ≡ list_any (λ e. e.block == block) before.now }
 {
     before.iter().any(|e| e.block == block)
+}
+
+/// The first rule that the block of an entry breaks behind those before it in its set: that it is one under
+/// this line and belongs to the set, and that it comes once.
+pub fn block_fault(
+    geometry: Geometry,
+    set: u32,
+    before: &[Entry],
+    block: u32,
+) -> Option<RecordFault>
+    requires { length before.now < 16 }
+    ensures { result ≡ block_fault geometry set before.now block }
+{
+    let place = before.len() as u8;
+    if !belongs(geometry, set, block) {
+        Some(RecordFault::WrongSet { set, place })
+    } else if repeats(before, block) {
+        Some(RecordFault::Repeated { set, place })
+    } else {
+        None
+    }
+}
+
+/// The first rule that the time of an entry breaks behind those before it in its set: that it is below that
+/// of the record, and below the one in front.
+pub fn time_fault(now: u64, set: u32, before: &[Entry], time: u64) -> Option<RecordFault>
+    requires { length before.now < 16 }
+    ensures { result ≡ time_fault now set before.now time }
+{
+    let place = before.len() as u8;
+    if time >= now {
+        Some(RecordFault::TimeRange { set, place })
+    } else if is_no_later(before, time) {
+        Some(RecordFault::NotDescending { set, place })
+    } else {
+        None
+    }
 }
 
 /// The first rule that an entry breaks behind those before it in its set.
@@ -47,18 +84,9 @@ fn entry_fault(
     requires { length before.now < 16 }
     ensures { result ≡ entry_fault geometry time set before.now entry }
 {
-    let place = before.len() as u8;
-    if !belongs(geometry, set, entry.block) {
-        Some(RecordFault::WrongSet { set, place })
-    } else if repeats(before, entry.block) {
-        Some(RecordFault::Repeated { set, place })
-    } else if entry.time >= time {
-        Some(RecordFault::TimeRange { set, place })
-    } else if is_no_later(before, entry) {
-        Some(RecordFault::NotDescending { set, place })
-    } else {
-        None
-    }
+    block_fault(geometry, set, before, entry.block).or_else(|| time_fault(
+        time, set, before, entry.time,
+    ))
 }
 
 /// The first rule that the entries of a set break.

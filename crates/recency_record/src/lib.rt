@@ -6,16 +6,19 @@
 mod entry;
 mod fault;
 mod judging;
-mod lane;
 mod laws;
 mod lists;
 mod record;
 mod snapshot;
+mod sorting;
 #[cfg(test)]
 mod tests;
 
 pub use entry::Entry;
 pub use fault::RecordFault;
+pub use judging::{block_fault, time_fault};
 pub use laws::holds_last_uses;
+pub use lists::RecencyLists;
 pub use record::Record;
 pub use snapshot::Snapshot;
+pub use sorting::put_by_time;

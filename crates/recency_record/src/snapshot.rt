@@ -1,17 +1,20 @@
-ghost use Rattle.std.specs.Prelude.{◌≡◌, ◌<◌, ◌≤◌, ◌+◌, length, slice_index_or, sum, IfOk, [], None};
+ghost use Rattle.std.specs.Prelude.{◌≡◌, ◌↔◌, ◌<◌, ◌≤◌, ◌+◌, length, slice_index_or, sum, IfOk, [], None};
 ghost use Rattle.lru_plain.specs.Shape.{sets_of};
 ghost use Rattle.smarts_base.specs.Outcome.{Answers};
-ghost use Rattle.recency_record.specs.Recency.{Recency, IsRecency};
+ghost use Rattle.recency_record.specs.Recency.{IsRecency, AreSets};
 ghost use Rattle.recency_record.specs.Faults.{judged, dealt, sets_fault};
 
 use crate::entry::Entry;
 use crate::fault::RecordFault;
 use crate::judging::first_fault;
-use crate::lane::Lane;
 use lru_plain::Geometry;
 use smarts_base::{NoMemory, Refusal};
 use std::alloc::Global;
 use std::marker::Model;
+
+mod builder;
+
+pub(crate) use builder::SnapshotBuilder;
 
 /// What a record told at one time. The entries of all sets stand in one row.
 #[derive(Debug, Drop)]
@@ -36,34 +39,9 @@ impl Model for Snapshot {
 }
 
 impl Snapshot {
-    /// The snapshot of these lists.
-    pub(crate) fn of_lanes(
-        alloc: Global,
-        geometry: Geometry,
-        time: u64,
-        lanes: &[Lane],
-    ) -> Result<Snapshot, NoMemory>
-        requires { let recency : Recency = record { shape = geometry; time = time; sets = lanes.now } in
-            IsRecency recency }
-        ensures { IfOk result (λ snapshot. snapshot ≡ record { shape = geometry; time = time; sets = lanes.now }) }
-    {
-        let mut starts = Vec::with_capacity(alloc, lanes.len() + 1)?;
-        let mut entries = Vec::new(alloc);
-        starts.push_reserved(0);
-        for lane in lanes {
-            entries.extend_from_slice(lane.as_slice())?;
-            starts.push_reserved(entries.len() as u32);
-        }
-        Ok(Snapshot {
-            geometry,
-            time,
-            starts,
-            entries,
-        })
-    }
-
     /// The snapshot of entries that are dealt out to the sets, so many to each in turn, or the first fault
     /// in the order of the sets, and then of their places.
+    #[tactic(auto, using(crate::proofs::Judgements::faults_are))]
     pub fn from_sets(
         alloc: Global,
         geometry: Geometry,
@@ -73,7 +51,11 @@ impl Snapshot {
     ) -> Result<Snapshot, Refusal<RecordFault>>
         requires sets { length counts.now ≡ sets_of geometry }
         requires entries { sum counts.now ≡ length entries.now }
-        ensures { Answers (λ snapshot. snapshot) result (judged geometry time (dealt counts.now entries.now)) }
+        ensures answer { Answers (λ snapshot. snapshot) result (judged geometry time (dealt counts.now entries.now)) }
+
+        // There is no fault exactly where the entries keep all five rules.
+        ensures sound { let sets = dealt counts.now entries.now in
+            (sets_fault geometry time 0 sets ≡ None) ↔ AreSets geometry time sets }
     {
         match first_fault(geometry, time, counts, entries) {
             Some(fault) => Err(Refusal::Fault(fault)),

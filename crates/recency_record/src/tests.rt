@@ -2,7 +2,7 @@ ghost use Rattle.std.specs.Prelude.{◌≡◌, ◌≤◌, length, sum};
 
 use super::*;
 use lru_plain::Geometry;
-use smarts_base::Refusal;
+use smarts_base::{Draws, Refusal};
 use std::alloc::Global;
 use std::test::Fail;
 
@@ -46,7 +46,7 @@ fn keeps_the_latest_uses(rt: HostRuntime) -> Result<(), Fail> {
     let record = record_of(rt.alloc(), geometry, &[0, 256, 64, 320, 0])?;
     assert_eq!(rt; record.time(), 5);
     assert!(rt; record.geometry() == geometry);
-    assert!(rt; is_example(&record.snapshot(rt.alloc())?));
+    assert!(rt; is_example(&record.snapshot()?));
 
     if geometry.sets() != 4 {
         return Err("other sets".into());
@@ -55,6 +55,78 @@ fn keeps_the_latest_uses(rt: HostRuntime) -> Result<(), Fail> {
     match Snapshot::from_sets(rt.alloc(), geometry, 5, &[2, 2, 0, 0], &entries) {
         Ok(made) => assert!(rt; is_example(&made)),
         Err(_refusal) => return Err("refused".into()),
+    }
+    Ok(())
+}
+
+/// What is in a slot, where there is such a set and way.
+fn slot(record: &Record, set: u32, way: u8) -> Option<Entry> {
+    let geometry = record.geometry();
+    if set < geometry.sets() && way < geometry.ways() {
+        record.slot(set, way)
+    } else {
+        None
+    }
+}
+
+#[test]
+fn writes_one_slot(rt: HostRuntime) -> Result<(), Fail> {
+    let mut record = record_of(rt.alloc(), shape(6, 2, 2)?, &[0, 256, 64, 320, 0])?;
+    let before = [
+        (0, 0, entry(0, 4)),
+        (0, 1, entry(4, 1)),
+        (1, 0, entry(1, 2)),
+        (1, 1, entry(5, 3)),
+    ];
+    for (set, way, wanted) in before {
+        assert_eq!(rt; slot(&record, set, way), Some(wanted));
+    }
+    assert_eq!(rt; slot(&record, 2, 0), None);
+    if record.time() < 1 << 63 {
+        record.refer(512);
+    }
+    let after = [
+        (0, 0, entry(0, 4)),
+        (0, 1, entry(8, 5)),
+        (1, 0, entry(1, 2)),
+        (1, 1, entry(5, 3)),
+    ];
+    for (set, way, wanted) in after {
+        assert_eq!(rt; slot(&record, set, way), Some(wanted));
+    }
+
+    // In order they stand at the front, and the rest stays.
+    let mut out = [entry(7, 7); 3];
+    if 0 < record.geometry().sets() && record.geometry().ways() <= 3 {
+        assert_eq!(rt; record.ordered(0, out.as_mut_slice()), 2);
+    }
+    assert_eq!(rt; out, [entry(8, 5), entry(0, 4), entry(7, 7)]);
+    Ok(())
+}
+
+/// Whether two snapshots have the same entries.
+fn are_same(one: &Snapshot, other: &Snapshot) -> bool {
+    let count = one.geometry().sets();
+    count == other.geometry().sets() && (0..count).all(|set| holds(one, set, other.entries(set)))
+}
+
+#[test]
+fn lists_tell_the_same(rt: HostRuntime) -> Result<(), Fail> {
+    for ways in 1..=5 {
+        let geometry = shape(4, 1, ways)?;
+        let mut lists = RecencyLists::new(rt.alloc(), geometry)?;
+        let mut addrs = [0; 300];
+        let mut draws = Draws { state: 5 };
+        for addr in addrs.iter_mut() {
+            *addr = draws.draw() & 0xFF;
+            if lists.time() < 1 << 63 {
+                lists.refer(*addr);
+            }
+        }
+        let told = record_of(rt.alloc(), geometry, addrs.as_slice())?.snapshot()?;
+        let same = lists.snapshot()?;
+        assert_eq!(rt; same.time(), 300);
+        assert!(rt; are_same(&told, &same));
     }
     Ok(())
 }
@@ -176,9 +248,15 @@ const SETS: [(u64, [u8; 4], &[Entry], Option<RecordFault>); 11] = [
 #[test]
 fn judges_sets(rt: HostRuntime) -> Result<(), Fail> {
     let geometry = shape(6, 2, 2)?;
+    let mut numbers = [false; 6];
     for (time, counts, entries, fault) in SETS {
+        let number = fault.map_or(0, |fault| fault.number());
+        if number < 6 {
+            numbers[usize::from(number)] = true;
+        }
         let answer = judged(rt.alloc(), geometry, time, counts.as_slice(), entries)?;
         assert_eq!(rt; answer, fault);
     }
+    assert_eq!(rt; numbers, [true; 6]);
     Ok(())
 }

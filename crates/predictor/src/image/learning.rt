@@ -1,4 +1,4 @@
-ghost use Rattle.std.specs.Prelude.{◌≡◌, not};
+ghost use Rattle.std.specs.Prelude.{◌≡◌, ◌%◌, not};
 ghost use Rattle.predictor.specs.Rules.{is_taken, same_direction, counter_for, after_branch, pushed_if, is_top, popped, holds_jump, target_for, after_jump, is_mispredicted, observed};
 
 use crate::direction::{counted, lengthened, low_bits, mixed};
@@ -24,6 +24,7 @@ impl PredictorImage {
 
     /// Puts the address behind a call on the stack, if it is one.
     fn push_if(&mut self, push: bool, pc: u32)
+        requires { pc % 4 ≡ 0 }
         ensures { self.new ≡ pushed_if push self.old pc }
     {
         if push {
@@ -42,6 +43,8 @@ impl PredictorImage {
 
     /// Learns from an indirect jump that is no return, and tells whether it was mispredicted.
     fn jump(&mut self, pc: u32, next: u32) -> bool
+        requires pc { pc % 4 ≡ 0 }
+        requires next { next % 4 ≡ 0 }
         ensures missed { result ≡ not (holds_jump (target_for self.old pc) pc next) }
         ensures tables { self.new ≡ after_jump self.old pc next }
     {
@@ -55,6 +58,8 @@ impl PredictorImage {
     /// Learns from an event, and tells whether it was mispredicted.
     #[inline]
     pub(crate) fn observe(&mut self, event: &Event) -> bool
+        requires pc { event.now.pc % 4 ≡ 0 }
+        requires next { event.now.next % 4 ≡ 0 }
         ensures missed { result ≡ is_mispredicted self.old event.now }
         ensures tables { self.new ≡ observed self.old event.now }
     {

@@ -1,12 +1,11 @@
-use Rattle.std.proofs.Common.{◌≡◌, length, true, sym, arith}
-use Rattle.std.proofs.lemmas.Bool.Decides.{nat_tests}
+use Rattle.std.proofs.Common.{◌≡◌, length, true, not, ap, ◌∙◌, sym, arith}
 use Rattle.smarts_base.proofs.Leasts.{least_below_none, least_below_some}
 use Rattle.predictor.specs.Parts.{bad_address}
 use Rattle.predictor.proofs.parts.first_bad_address.Goals as goal
 
-pub returns-then-address-ne0 : goal.returns-then-address-ne0
-returns-then-address-ne0 c =
-    let bad : bad_address c.args.stack.now c.loop-i.i ≡ true = grind (arith, nat_tests, c.if-address-ne0.true) in
+pub returns-then-not-is_instruction : goal.returns-then-not-is_instruction
+returns-then-not-is_instruction c =
+    let bad : bad_address c.args.stack.now c.loop-i.i ≡ true = ap not (sym c.is_instruction.ensures ∙ c.if-not-is_instruction.true) in
     sym (least_below_some (length c.args.stack.now) c.loop-i.i (bad_address c.args.stack.now) (omega arith) bad c.loop-i.invariant)
 
 pub returns : goal.returns

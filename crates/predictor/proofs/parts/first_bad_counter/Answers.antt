@@ -1,12 +1,11 @@
-use Rattle.std.proofs.Common.{◌≡◌, length, true, sym, arith}
-use Rattle.std.proofs.lemmas.Bool.Decides.{nat_tests}
+use Rattle.std.proofs.Common.{◌≡◌, length, true, not, ap, ◌∙◌, sym, arith}
 use Rattle.smarts_base.proofs.Leasts.{least_below_none, least_below_some}
 use Rattle.predictor.specs.Parts.{bad_counter}
 use Rattle.predictor.proofs.parts.first_bad_counter.Goals as goal
 
-pub returns-then-counter-gt3 : goal.returns-then-counter-gt3
-returns-then-counter-gt3 c =
-    let bad : bad_counter c.args.counters.now c.loop-i.i ≡ true = grind (arith, nat_tests, c.if-counter-gt3.true) in
+pub returns-then-not-is_counter : goal.returns-then-not-is_counter
+returns-then-not-is_counter c =
+    let bad : bad_counter c.args.counters.now c.loop-i.i ≡ true = ap not (sym c.is_counter.ensures ∙ c.if-not-is_counter.true) in
     sym (least_below_some (length c.args.counters.now) c.loop-i.i (bad_counter c.args.counters.now) (omega arith) bad c.loop-i.invariant)
 
 pub returns : goal.returns

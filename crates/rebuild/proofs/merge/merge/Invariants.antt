@@ -4,8 +4,8 @@ use Rattle.rebuild.specs.Merge.{united}
 use Rattle.rebuild.proofs.merge.merge.Given as goal
 
 abbrev pub invariant-loop-turn : goal.invariant-loop-turn
-invariant-loop-turn l = record {
+invariant-loop-turn g l = record {
   merged : l.latest.items
-      ≡ take l.ways (by_time (united l.count l.set (l.count * (l.turns - l.turn)) (drop (l.count * (l.turns - l.turn)) l.snapshot.sets)));
+      ≡ take l.ways (by_time (united l.count l.set (l.count * (l.turns - l.turn)) (drop (l.count * (l.turns - l.turn)) (g.S.Source.told l.source).sets)));
   cut : length l.latest.items ≤ l.ways;
 }

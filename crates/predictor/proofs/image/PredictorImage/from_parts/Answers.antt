@@ -15,9 +15,12 @@ of_parts-requires c =
     } in
     let range : IsInRange parts = no_fault parts (sym c.first_fault.ensures ∙ c.in_default.is) in
     record {
-      kind = c.requires.kind;
-      counters = c.requires.counters;
-      history = history_below c.args.kind.scheme c.args.kind.bits c.args.history range.history;
-      targets = c.requires.targets;
-      stack = c.requires.stack;
+      tables = record {
+        kind = c.requires.kind;
+        counters = c.requires.counters;
+        history = history_below c.args.kind.scheme c.args.kind.bits c.args.history range.history;
+        targets = c.requires.targets;
+        stack = c.requires.stack;
+      };
+      ranges = range;
     }
