@@ -2,7 +2,7 @@
 use Rattle.std.proofs.Common.{◌≡◌, ◌≢◌, ◌⊎◌, ◌+◌, ◌-◌, ◌<◌, ◌≤◌, ℕ, Bool, true, false, not, ◌&&◌, ◌||◌, Option, Some, None, List, length, set, inl, inr, refl, arith, sym, subst, ◌∙◌}
 use Rattle.std.proofs.lemmas.Bool.{and_parts, cases_eq, cases_lt, cases_Bool, lt-ltb, le-ltb}
 use Rattle.std.proofs.lemmas.List.{get_or-set_same, get_or-set_other}
-use Rattle.smarts_base.specs.Least.{or_else}
+use Rattle.std.specs.Option.{option_or}
 use Rattle.confidence.specs.declared.answer.Answer.{Answer}
 use Rattle.ordered_fold.specs.declared.front.Front.{Front}
 use Rattle.ordered_fold.specs.declared.seat.Seat.{Seat}
@@ -149,7 +149,7 @@ either_past true b e = inl refl
 either_past false b e = inr e
 
 either_seen :
-    (a b : Option ℕ) (e : ℕ) → or_else a b ≡ Some e → (a ≡ Some e) ⊎ (b ≡ Some e)
+    (a b : Option ℕ) (e : ℕ) → option_or a b ≡ Some e → (a ≡ Some e) ⊎ (b ≡ Some e)
 either_seen (Some x) b e same = inl same
 either_seen None b e same = inr same
 

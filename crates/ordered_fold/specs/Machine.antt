@@ -2,7 +2,7 @@
 -- are reported into cells, and one seat at a time folds the cells in order.
 use Rattle.std.specs.Prelude.{◌+◌, ◌-◌, ◌*◌, ◌%◌, ◌==◌, ℕ, Bool, true, false, not, ◌&&◌, ◌||◌, nat_lt, if◌then◌else◌, Option, Some, None, is_some, is_none, List, length, replicate, slice_get, slice_index_or, slice_set}
 use Rattle.std.specs.List.{fold}
-use Rattle.smarts_base.specs.Least.{or_else}
+use Rattle.std.specs.Option.{option_or}
 use Rattle.confidence.specs.declared.answer.Answer.{Answer}
 use Rattle.ordered_fold.specs.declared.front.Front.{Front}
 use Rattle.ordered_fold.specs.declared.seat.Seat.{Seat}
@@ -161,7 +161,7 @@ abbrev pub joined_of : Seat → Seat → Seat
 joined_of seat other = record seat {
   last = later seat.last other.last;
   past = seat.past || other.past;
-  seen_end = or_else seat.seen_end other.seen_end;
+  seen_end = option_or seat.seen_end other.seen_end;
 }
 
 abbrev pub after_join : ℕ → ℕ → Seat → Core → Core

@@ -26,11 +26,11 @@ impl Model for CoreState {
 
     ghost Value = { CoreRun };
 
-    ghost use Rattle.ordered_fold.specs.CoreView.{run_of};
+    ghost use Rattle.ordered_fold.specs.CoreView.{core_run_of};
 
-    ghost view = { run_of };
+    ghost view = { core_run_of };
 
-    ghost invariant = { λ fields. IsRun (run_of fields) };
+    ghost invariant = { λ fields. IsRun (core_run_of fields) };
 }
 
 impl CoreState {

@@ -5,7 +5,8 @@ use Rattle.std.specs.List.{AllPass}
 use Rattle.std.proofs.lemmas.List.Elements.{All-from_get_or}
 use Rattle.std.proofs.lemmas.Bool.Decides.{nat_tests}
 use Rattle.std.proofs.lemmas.Nat.{pow_pos}
-use Rattle.smarts_base.specs.Least.{least_below, or_else}
+use Rattle.smarts_base.specs.Least.{least_below}
+use Rattle.std.specs.Option.{option_or}
 use Rattle.smarts_base.proofs.Leasts.{least_below_none, none_passes}
 use Rattle.predictor.specs.declared.parts.BadPart.{BadPart}
 use Rattle.predictor.specs.declared.kind.Scheme.{Scheme}
@@ -13,7 +14,7 @@ use Rattle.predictor.specs.declared.kind.Scheme.TheVariants.{Bimodal, Gshare}
 use Rattle.predictor.specs.Tables.{Tables, no_target}
 use Rattle.predictor.specs.Parts.{fault_of, fault_at, IsInRange, is_counter, is_history, is_instruction, is_entry, histories, bad_counter, bad_entry, bad_address}
 
-or_else_none : {X : Type 0} (a b : Option X) → or_else a b ≡ None → (a ≡ None) × (b ≡ None)
+or_else_none : {X : Type 0} (a b : Option X) → option_or a b ≡ None → (a ≡ None) × (b ≡ None)
 or_else_none None b e = (refl, e)
 or_else_none (Some x) b e = cc
 
@@ -54,9 +55,9 @@ no_fault t e =
     let targets : Option ℕ = least_below (length t.targets) (bad_entry t.kind t.targets) in
     let stack : Option ℕ = least_below (length t.stack) (bad_address t.stack) in
     let history : Option BadPart = if is_history t.kind t.history then None else fault_at 1 (Some 0) in
-    let last : Option BadPart = or_else (fault_at 2 targets) (fault_at 3 stack) in
-    let a : (fault_at 0 counters ≡ None) × (or_else history last ≡ None) =
-    or_else_none (fault_at 0 counters) (or_else history last) e in
+    let last : Option BadPart = option_or (fault_at 2 targets) (fault_at 3 stack) in
+    let a : (fault_at 0 counters ≡ None) × (option_or history last ≡ None) =
+    or_else_none (fault_at 0 counters) (option_or history last) e in
     let b : (history ≡ None) × (last ≡ None) = or_else_none history last a.1 in
     let c : (fault_at 2 targets ≡ None) × (fault_at 3 stack ≡ None) =
     or_else_none (fault_at 2 targets) (fault_at 3 stack) b.1 in

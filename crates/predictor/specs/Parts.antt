@@ -1,7 +1,8 @@
 -- Which parts an image may have, and the first place at which it has another.
 use Rattle.std.specs.Prelude.{◌≡◌, ℕ, ◌/◌, ◌%◌, ◌^◌, ◌<◌, Bool, true, not, ◌&&◌, ◌||◌, ◌==◌, nat_le, nat_lt, if◌then◌else◌, Option, Some, None, Result, Ok, Err, List, length, slice_index, slice_index_or}
 use Rattle.std.specs.List.{AllPass}
-use Rattle.smarts_base.specs.Least.{least_below, or_else}
+use Rattle.smarts_base.specs.Least.{least_below}
+use Rattle.std.specs.Option.{option_or}
 use Rattle.predictor.specs.declared.kind.PredictorKind.{PredictorKind}
 use Rattle.predictor.specs.declared.kind.Scheme.{Scheme}
 use Rattle.predictor.specs.declared.kind.Scheme.TheVariants.{Bimodal, Gshare}
@@ -53,9 +54,9 @@ fault_at part (Some index) = Some (record { part = part; index = index })
 -- the first fault, with the parts in the order counters, history, targets, stack
 unfoldable pub fault_of : Tables → Option BadPart
 fault_of t =
-    or_else (fault_at 0 (least_below (length t.counters) (bad_counter t.counters)))
-    (or_else (if is_history t.kind t.history then None else fault_at 1 (Some 0))
-    (or_else (fault_at 2 (least_below (length t.targets) (bad_entry t.kind t.targets)))
+    option_or (fault_at 0 (least_below (length t.counters) (bad_counter t.counters)))
+    (option_or (if is_history t.kind t.history then None else fault_at 1 (Some 0))
+    (option_or (fault_at 2 (least_below (length t.targets) (bad_entry t.kind t.targets)))
     (fault_at 3 (least_below (length t.stack) (bad_address t.stack)))))
 
 -- no part is outside its range

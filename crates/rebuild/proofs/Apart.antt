@@ -5,7 +5,7 @@ use Rattle.std.proofs.Math.Nat.{pow-le-pow_right}
 use Rattle.lru_plain.specs.Shape.{Shape, IsShape, sets_of, home_of}
 use Rattle.lru_plain.specs.Lists.{free_block}
 use Rattle.recency_record.specs.declared.entry.Entry.{Entry}
-use Rattle.recency_record.specs.Each.{Each}
+use Rattle.std.specs.List.{AllByRecursion}
 use Rattle.recency_record.specs.Slots.{placed, by_time}
 use Rattle.recency_record.specs.Recency.{Recency, IsRecency, IsSet, IsEntry, IsRanked}
 use Rattle.recency_record.proofs.Eachs.{each_weaker, each_append, each_take}
@@ -19,7 +19,7 @@ apart_take zero es h = tt
 apart_take (suc n) [] h = tt
 apart_take (suc n) (e ∷ es) h = (each_take (λ x. x.block ≢ e.block) n es h.0, apart_take n es h.1)
 
-apart_placed : (e : Entry) (es : List Entry) → Each (λ x. x.block ≢ e.block) es → AreApart es → AreApart (placed e es)
+apart_placed : (e : Entry) (es : List Entry) → AllByRecursion (λ x. x.block ≢ e.block) es → AreApart es → AreApart (placed e es)
 apart_placed e [] other h = (tt, tt)
 apart_placed e (x ∷ xs) other h =
     elim (cases_Bool (leb x.time e.time)) [
@@ -33,7 +33,7 @@ apart_by_time : (es : List Entry) → AreApart es → AreApart (by_time es)
 apart_by_time [] h = tt
 apart_by_time (e ∷ es) h = apart_placed e (by_time es) (each_by_time (λ x. x.block ≢ e.block) es h.0) (apart_by_time es h.1)
 
-apart_append : (xs ys : List Entry) → AreApart xs → AreApart ys → Each (λ x. Each (λ y. y.block ≢ x.block) ys) xs → AreApart (xs ++ ys)
+apart_append : (xs ys : List Entry) → AreApart xs → AreApart ys → AllByRecursion (λ x. AllByRecursion (λ y. y.block ≢ x.block) ys) xs → AreApart (xs ++ ys)
 apart_append [] ys h k other = k
 apart_append (x ∷ xs) ys h k other =
     (each_append (λ y. y.block ≢ x.block) xs ys h.0 other.0, apart_append xs ys h.1 k other.1)
@@ -52,12 +52,12 @@ module _ (g : Shape) (time count class : ℕ) where
   Own first e = (first ≤ home_of g e.block) × (home_of g e.block % count ≡ class)
 
   united_own : (first : ℕ) (sets : List (List Entry)) → ((k : ℕ) → k < length sets → IsSet g time (first + k) (get_or sets k []))
-      → Each (Own first) (united count class first sets)
+      → AllByRecursion (Own first) (united count class first sets)
   united_own first [] h = tt
   united_own first (es ∷ rest) h =
-      let behind : Each (Own (first + 1)) (united count class (first + 1) rest) =
+      let behind : AllByRecursion (Own (first + 1)) (united count class (first + 1) rest) =
       united_own (first + 1) rest (λ k below. let step : (first + 1) + k ≡ first + suc k = omega arith in rw step (h (suc k) (omega (arith, below)))) in
-      let weaker : Each (Own first) (united count class (first + 1) rest) =
+      let weaker : AllByRecursion (Own first) (united count class (first + 1) rest) =
       each_weaker (Own (first + 1)) (Own first) (united count class (first + 1) rest) (λ e p. (let low : first + 1 ≤ home_of g e.block = p.0 in omega (arith, low), p.1)) behind in
       elim (cases_Bool (eqb (first % count) class)) [
         | inl q ↦
@@ -77,12 +77,12 @@ module _ (g : Shape) (time count class : ℕ) where
       let rests : (k : ℕ) → k < length rest → IsSet g time ((first + 1) + k) (get_or rest k []) =
       (λ k below. let step : (first + 1) + k ≡ first + suc k = omega arith in rw step (h (suc k) (omega (arith, below)))) in
       let behind : AreApart (united count class (first + 1) rest) = united_apart (first + 1) rest rests in
-      let homes : Each (Own (first + 1)) (united count class (first + 1) rest) = united_own (first + 1) rest rests in
+      let homes : AllByRecursion (Own (first + 1)) (united count class (first + 1) rest) = united_own (first + 1) rest rests in
       elim (cases_Bool (eqb (first % count) class)) [
         | inl q ↦
             let own : IsSet g time (first + 0) es = h 0 (omega arith) in
             rw q (apart_append es (united count class (first + 1) rest) (apart_ranked es own.ranked) behind
-            (each_weaker (IsEntry g time (first + 0)) (λ x. Each (λ y. y.block ≢ x.block) (united count class (first + 1) rest)) es
+            (each_weaker (IsEntry g time (first + 0)) (λ x. AllByRecursion (λ y. y.block ≢ x.block) (united count class (first + 1) rest)) es
             (λ x p. each_weaker (Own (first + 1)) (λ y. y.block ≢ x.block) (united count class (first + 1) rest)
             (λ y o same.
             let home : home_of g x.block ≡ first + 0 = p.home in
@@ -94,10 +94,10 @@ module _ (g : Shape) (time count class : ℕ) where
 
 -- what holds of each entry of each set holds of those of united sets
 united_each : (P : Entry → Type 0) (count class first : ℕ) (sets : List (List Entry))
-    → ((k : ℕ) → k < length sets → Each P (get_or sets k [])) → Each P (united count class first sets)
+    → ((k : ℕ) → k < length sets → AllByRecursion P (get_or sets k [])) → AllByRecursion P (united count class first sets)
 united_each P count class first [] h = tt
 united_each P count class first (es ∷ rest) h =
-    let behind : Each P (united count class (first + 1) rest) = united_each P count class (first + 1) rest (λ k below. h (suc k) (omega (arith, below))) in
+    let behind : AllByRecursion P (united count class (first + 1) rest) = united_each P count class (first + 1) rest (λ k below. h (suc k) (omega (arith, below))) in
     elim (cases_Bool (eqb (first % count) class)) [
       | inl q ↦ rw q (each_append P es (united count class (first + 1) rest) (h 0 (omega arith)) behind)
       | inr q ↦ rw q behind
@@ -122,7 +122,7 @@ module _ (r : Recency) (small : Shape) (class n : ℕ) (recency : IsRecency r) w
       (apart_by_time (united (sets_of small) class 0 r.sets) (united_apart r.shape r.time (sets_of small) class 0 r.sets own_sets))
 
   pub merged_homes : small.sets_log ≤ r.shape.sets_log
-      → Each (λ e. home_of small e.block ≡ class) (take n (by_time (united (sets_of small) class 0 r.sets)))
+      → AllByRecursion (λ e. home_of small e.block ≡ class) (take n (by_time (united (sets_of small) class 0 r.sets)))
   merged_homes h =
       each_take (λ e. home_of small e.block ≡ class) n (by_time (united (sets_of small) class 0 r.sets))
       (each_by_time (λ e. home_of small e.block ≡ class) (united (sets_of small) class 0 r.sets)
@@ -130,7 +130,7 @@ module _ (r : Recency) (small : Shape) (class n : ℕ) (recency : IsRecency r) w
       (λ e p. sym (small_home r.shape small e.block h) ∙ p.1)
       (united_own r.shape r.time (sets_of small) class 0 r.sets own_sets)))
 
-  pub merged_blocks : Each (λ e. e.block < free_block) (take n (by_time (united (sets_of small) class 0 r.sets)))
+  pub merged_blocks : AllByRecursion (λ e. e.block < free_block) (take n (by_time (united (sets_of small) class 0 r.sets)))
   merged_blocks =
       each_take (λ e. e.block < free_block) n (by_time (united (sets_of small) class 0 r.sets))
       (each_by_time (λ e. e.block < free_block) (united (sets_of small) class 0 r.sets)

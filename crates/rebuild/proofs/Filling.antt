@@ -5,11 +5,11 @@ use Rattle.std.proofs.lemmas.List.{take_more, map-append}
 use Rattle.lru_plain.specs.Shape.{Shape}
 use Rattle.lru_plain.specs.Cache.{Cache}
 use Rattle.recency_record.specs.declared.entry.Entry.{Entry}
-use Rattle.recency_record.specs.Each.{Each}
+use Rattle.std.specs.List.{AllByRecursion}
 use Rattle.rebuild.specs.Pouring.{AreApart}
 use Rattle.rebuild.proofs.PlainSets.{blocks_in}
 
-each_at : (P : Entry → Type 0) (es : List Entry) (k : ℕ) (d : Entry) → Each P es → k < length es → P (get_or es k d)
+each_at : (P : Entry → Type 0) (es : List Entry) (k : ℕ) (d : Entry) → AllByRecursion P es → k < length es → P (get_or es k d)
 each_at P [] k d h below = absurd (omega (arith, below))
 each_at P (e ∷ es) zero d h below = h.0
 each_at P (e ∷ es) (suc k) d h below = each_at P es k d h.1 (omega (arith, below))

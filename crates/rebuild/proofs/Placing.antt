@@ -2,7 +2,7 @@
 use Rattle.std.proofs.Common.{◌≡◌, ℕ, zero, suc, ◌<◌, leb, List, [], ◌∷◌, ◌++◌, take, refl, ap, inl, inr, ◌≤◌, le_of_lt}
 use Rattle.std.proofs.lemmas.Bool.{cases_Bool, lt-leb}
 use Rattle.recency_record.specs.declared.entry.Entry.{Entry}
-use Rattle.recency_record.specs.Each.{Each}
+use Rattle.std.specs.List.{AllByRecursion}
 use Rattle.recency_record.specs.Slots.{placed, by_time}
 use Rattle.recency_record.proofs.Eachs.{each_weaker}
 use Rattle.recency_record.proofs.SlotsLemmas.{placed_first, each_by_time}
@@ -34,12 +34,12 @@ poured_sorted n (e ∷ es) rest = rw (poured_sorted n es rest) (placed_of_cut n 
 
 -- an entry behind earlier ones is still the first
 pub first_behind : (x : Entry) (es rest less : List Entry) → by_time rest ≡ x ∷ by_time less
-    → Each (λ e. e.time < x.time) es → by_time (es ++ rest) ≡ x ∷ by_time (es ++ less)
+    → AllByRecursion (λ e. e.time < x.time) es → by_time (es ++ rest) ≡ x ∷ by_time (es ++ less)
 first_behind x [] rest less h early = h
 first_behind x (e ∷ es) rest less h early =
     rw (first_behind x es rest less h early.1, lt-leb x.time e.time early.0) refl
 
-pub first_of_all : (x : Entry) (es : List Entry) → Each (λ e. e.time < x.time) es → by_time (x ∷ es) ≡ x ∷ by_time es
+pub first_of_all : (x : Entry) (es : List Entry) → AllByRecursion (λ e. e.time < x.time) es → by_time (x ∷ es) ≡ x ∷ by_time es
 first_of_all x es early =
     placed_first x (by_time es)
     (each_by_time (λ e. e.time ≤ x.time) es (each_weaker (λ e. e.time < x.time) (λ e. e.time ≤ x.time) es (λ e h. le_of_lt h) early))

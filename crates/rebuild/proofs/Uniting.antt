@@ -3,7 +3,7 @@ use Rattle.std.proofs.Common.{◌≡◌, ◌≢◌, ℕ, zero, suc, ◌+◌, ◌
 use Rattle.std.specs.List.{range_with_len}
 use Rattle.std.proofs.lemmas.Bool.{cases_Bool, cases_eq, ne_eqb}
 use Rattle.recency_record.specs.declared.entry.Entry.{Entry}
-use Rattle.recency_record.specs.Each.{Each}
+use Rattle.std.specs.List.{AllByRecursion}
 use Rattle.recency_record.specs.Recency.{IsRanked}
 use Rattle.recency_record.specs.Slots.{by_time}
 use Rattle.recency_record.proofs.Eachs.{each_weaker, each_append, each_take, each_filter}
@@ -27,7 +27,7 @@ module _ (count class : ℕ) where
         | inr q ↦ rw (q, rest) refl
       ]
 
-  each_gathered : (P : Entry → Type 0) (f : ℕ → List Entry) (first m : ℕ) → ((k : ℕ) → Each P (f k)) → Each P (gathered f first m)
+  each_gathered : (P : Entry → Type 0) (f : ℕ → List Entry) (first m : ℕ) → ((k : ℕ) → AllByRecursion P (f k)) → AllByRecursion P (gathered f first m)
   each_gathered P f first zero h = tt
   each_gathered P f first (suc m) h =
       elim (cases_Bool (eqb (first % count) class)) [
@@ -38,7 +38,7 @@ module _ (count class : ℕ) where
   -- the latest entry of all, in front of one set
   pub gathered_first : (x : Entry) (c : ℕ) (f g : ℕ → List Entry) (first m : ℕ)
       → f c ≡ x ∷ g c → ((k : ℕ) → (k ≡ c → ⊥) → f k ≡ g k) → c % count ≡ class
-      → ((k : ℕ) → Each (λ e. e.time < x.time) (g k)) → first ≤ c → c < first + m
+      → ((k : ℕ) → AllByRecursion (λ e. e.time < x.time) (g k)) → first ≤ c → c < first + m
       → by_time (gathered f first m) ≡ x ∷ by_time (gathered g first m)
   gathered_first x c f g first zero here other own early low high = absurd (omega (arith, low, high))
   gathered_first x c f g first (suc m) here other own early low high =
@@ -85,14 +85,14 @@ module _ (count class : ℕ) where
   take_one (suc n) x es h = let less : suc n - 1 ≡ n = omega arith in rw less refl
 
   pub gathered_dealt : (number : Entry → ℕ) (all n : ℕ) (bound : ℕ → ℕ) (es : List Entry) → IsRanked es
-      → Each (λ e. number e < all) es → ((k : ℕ) → n ≤ bound k)
+      → AllByRecursion (λ e. number e < all) es → ((k : ℕ) → n ≤ bound k)
       → take n (by_time (gathered (dealt_out number bound es) 0 all))
       ≡ take n (filter (λ e. eqb (number e % count) class) es)
   gathered_dealt number all n bound [] ranked within enough =
       rw (gathered_none (dealt_out number bound []) 0 all (λ k. take_nothing (bound k))) refl
   gathered_dealt number all zero bound (x ∷ xs) ranked within enough = refl
   gathered_dealt number all (suc n) bound (x ∷ xs) ranked within enough =
-      let early : Each (λ e. e.time < x.time) xs =
+      let early : AllByRecursion (λ e. e.time < x.time) xs =
       each_weaker (λ e. (e.time < x.time) × (e.block ≢ x.block)) (λ e. e.time < x.time) xs (λ e h. h.0) ranked.0 in
       elim (cases_eq (number x % count) class) [
         | inl own ↦

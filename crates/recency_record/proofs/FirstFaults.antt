@@ -4,7 +4,7 @@ use Rattle.std.proofs.Math.Seq.{drop-cons}
 use Rattle.std.proofs.lemmas.Bool.{false≢true, true≢false}
 use Rattle.std.proofs.lemmas.List.{drop_all, take_more, length-drop}
 use Rattle.std.proofs.lemmas.List.Sums.{sum_by-drop_more}
-use Rattle.smarts_base.specs.Least.{or_else}
+use Rattle.std.specs.Option.{option_or}
 use Rattle.lru_plain.specs.Shape.{Shape}
 use Rattle.recency_record.specs.declared.entry.Entry.{Entry}
 use Rattle.recency_record.specs.declared.fault.RecordFault.{RecordFault}
@@ -21,17 +21,17 @@ pub not_too_many : (g : Shape) (now number : ℕ) (es : List Entry) → length e
 unfolding set_fault
 not_too_many g now number es h = rw (le-ltb g.ways (length es) h) refl
 
-there : (r other : Option RecordFault) → is_some r ≡ true → r ≡ or_else r other
+there : (r other : Option RecordFault) → is_some r ≡ true → r ≡ option_or r other
 there None other h = absurd (false≢true h)
 there (Some fault) other h = refl
 
-absent : (r other : Option RecordFault) → is_some r ≡ false → or_else r other ≡ other
+absent : (r other : Option RecordFault) → is_some r ≡ false → option_or r other ≡ other
 absent None other h = refl
 absent (Some fault) other h = absurd (true≢false h)
 
 entries_step : (g : Shape) (now number : ℕ) (es : List Entry) (k : ℕ) (d : Entry) → k < length es
     → entries_fault g now number (take k es) (drop k es)
-    ≡ or_else (entry_fault g now number (take k es) (get_or es k d))
+    ≡ option_or (entry_fault g now number (take k es) (get_or es k d))
     (entries_fault g now number (take (k + 1) es) (drop (k + 1) es))
 unfolding entries_fault
 entries_step g now number es k d h =
@@ -45,7 +45,7 @@ module _ (g : Shape) (now number : ℕ) (es : List Entry) (whole : Option Record
       → r ≡ entry_fault g now number (take k es) (get_or es k d) → is_some r ≡ true → r ≡ whole
   entry_found d r h at is some =
       there r (entries_fault g now number (take (k + 1) es) (drop (k + 1) es)) some
-      ∙ ap (λ (o : Option RecordFault). or_else o (entries_fault g now number (take (k + 1) es) (drop (k + 1) es))) is
+      ∙ ap (λ (o : Option RecordFault). option_or o (entries_fault g now number (take (k + 1) es) (drop (k + 1) es))) is
       ∙ sym (entries_step g now number es k d h) ∙ sym at
 
   pub entry_passed : (d : Entry) (r : Option RecordFault) → k < length es
@@ -54,7 +54,7 @@ module _ (g : Shape) (now number : ℕ) (es : List Entry) (whole : Option Record
       → whole ≡ entries_fault g now number (take (k + 1) es) (drop (k + 1) es)
   entry_passed d r h at is none =
       at ∙ entries_step g now number es k d h
-      ∙ ap (λ (o : Option RecordFault). or_else o (entries_fault g now number (take (k + 1) es) (drop (k + 1) es))) (sym is)
+      ∙ ap (λ (o : Option RecordFault). option_or o (entries_fault g now number (take (k + 1) es) (drop (k + 1) es))) (sym is)
       ∙ absent r (entries_fault g now number (take (k + 1) es) (drop (k + 1) es)) none
 
   pub entries_passed : length es ≤ k
@@ -67,7 +67,7 @@ module _ (g : Shape) (now number : ℕ) (counts : List ℕ) (rest own behind : L
   sets_step : number < length counts → count ≡ get_or counts number 0
       → own ≡ take count rest → behind ≡ drop count rest
       → sets_fault g now number (dealt (drop number counts) rest)
-      ≡ or_else (set_fault g now number own) (sets_fault g now (number + 1) (dealt (drop (number + 1) counts) behind))
+      ≡ option_or (set_fault g now number own) (sets_fault g now (number + 1) (dealt (drop (number + 1) counts) behind))
   unfolding sets_fault
   sets_step h is front back =
       let next : drop number counts ≡ get_or counts number 0 ∷ drop (number + 1) counts =
@@ -80,7 +80,7 @@ module _ (g : Shape) (now number : ℕ) (counts : List ℕ) (rest own behind : L
       → r ≡ set_fault g now number own → is_some r ≡ true → r ≡ whole
   set_found h is front back at fault some =
       there r (sets_fault g now (number + 1) (dealt (drop (number + 1) counts) behind)) some
-      ∙ ap (λ (o : Option RecordFault). or_else o (sets_fault g now (number + 1) (dealt (drop (number + 1) counts) behind))) fault
+      ∙ ap (λ (o : Option RecordFault). option_or o (sets_fault g now (number + 1) (dealt (drop (number + 1) counts) behind))) fault
       ∙ sym (sets_step h is front back) ∙ sym at
 
   pub set_passed : number < length counts → count ≡ get_or counts number 0
@@ -90,7 +90,7 @@ module _ (g : Shape) (now number : ℕ) (counts : List ℕ) (rest own behind : L
       → whole ≡ sets_fault g now (number + 1) (dealt (drop (number + 1) counts) behind)
   set_passed h is front back at fault none =
       at ∙ sets_step h is front back
-      ∙ ap (λ (o : Option RecordFault). or_else o (sets_fault g now (number + 1) (dealt (drop (number + 1) counts) behind))) (sym fault)
+      ∙ ap (λ (o : Option RecordFault). option_or o (sets_fault g now (number + 1) (dealt (drop (number + 1) counts) behind))) (sym fault)
       ∙ absent r (sets_fault g now (number + 1) (dealt (drop (number + 1) counts) behind)) none
 
   pub long_passed : number < length counts → count ≡ get_or counts number 0 → behind ≡ drop count rest

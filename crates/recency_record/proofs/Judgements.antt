@@ -2,19 +2,19 @@
 use Rattle.std.proofs.Common.{◌≡◌, ◌≢◌, ℕ, zero, suc, ◌+◌, ◌-◌, ◌^◌, ◌<◌, Bool, true, false, not, eqb, ltb, cond, List, [], ◌∷◌, ◌++◌, length, get_or, slice_get, ◌↔◌, Option, Some, None, refl, sym, subst, ◌∙◌, arith, true≢false, eqb-true, eq-eqb, ltb-true, ltb-false, lt-ltb, le-ltb, leb-false, append_assoc, append-nil, one-mul, ◌*◌}
 use Rattle.std.specs.List.{list_any}
 use Rattle.std.proofs.lemmas.Bool.{and_parts, or_parts, ne_eqb, lt-leb}
-use Rattle.smarts_base.specs.Least.{or_else}
+use Rattle.std.specs.Option.{option_or}
 use Rattle.lru_plain.specs.Shape.{Shape, IsShape, sets_of, home_of}
 use Rattle.recency_record.specs.declared.entry.Entry.{Entry}
 use Rattle.recency_record.specs.declared.fault.RecordFault.{RecordFault}
 use Rattle.recency_record.specs.declared.fault.RecordFault.TheVariants.{TooMany, WrongSet, Repeated, TimeRange, NotDescending}
-use Rattle.recency_record.specs.Each.{Each}
+use Rattle.std.specs.List.{AllByRecursion}
 use Rattle.recency_record.specs.Recency.{IsRecency, AreSets, IsSet, IsEntry, IsRanked}
 use Rattle.recency_record.specs.Faults.{belongs, is_no_later, block_fault, time_fault, entry_fault, entries_fault, set_fault, sets_fault, dealt}
 use Rattle.recency_record.proofs.Eachs.{each_append, each_both, each_weaker}
 use Rattle.recency_record.proofs.Ranks.{ranked_push}
 use Rattle.recency_record.proofs.Rows.{dealt_length}
 
-neither : (a b : Option RecordFault) → or_else a b ≡ None → (a ≡ None) × (b ≡ None)
+neither : (a b : Option RecordFault) → option_or a b ≡ None → (a ≡ None) × (b ≡ None)
 neither None b h = (refl, h)
 neither (Some x) b h = absurd (let e : Some x ≡ None = h in cc)
 
@@ -59,17 +59,17 @@ passes g now number before e h =
 
 -- later than the last is later than all
 all_later : (before : List Entry) (e : Entry) → IsRanked before
-    → is_no_later (slice_get before (length before - 1)) e.time ≡ false → Each (λ x. e.time < x.time) before
+    → is_no_later (slice_get before (length before - 1)) e.time ≡ false → AllByRecursion (λ x. e.time < x.time) before
 all_later [] e r h = tt
 all_later (x ∷ []) e r h = (omega (arith, leb-false x.time e.time h), tt)
 all_later (x ∷ y ∷ ys) e r h =
     let step : suc (suc (length ys)) - 1 ≡ suc (suc (length ys) - 1) = omega arith in
-    let rest : Each (λ z. e.time < z.time) (y ∷ ys) = all_later (y ∷ ys) e r.1 (rw step at h) in
+    let rest : AllByRecursion (λ z. e.time < z.time) (y ∷ ys) = all_later (y ∷ ys) e r.1 (rw step at h) in
     let before : y.time < x.time = r.0.0.0 in
     let after : e.time < y.time = rest.0 in
     (omega (arith, before, after), rest)
 
-all_other : (before : List Entry) (e : Entry) → list_any (λ x. eqb x.block e.block) before ≡ false → Each (λ x. x.block ≢ e.block) before
+all_other : (before : List Entry) (e : Entry) → list_any (λ x. eqb x.block e.block) before ≡ false → AllByRecursion (λ x. x.block ≢ e.block) before
 all_other [] e h = tt
 all_other (x ∷ xs) e h =
     let both : (eqb x.block e.block ≡ false) × (list_any (λ z. eqb z.block e.block) xs ≡ false) = or_parts _ _ h in
@@ -82,8 +82,8 @@ entry_of g now number before e h =
 
 entries_pass :
     (g : Shape) (now number : ℕ) (before es : List Entry) → entries_fault g now number before es ≡ None
-    → IsRanked before → Each (IsEntry g now number) before
-    → IsRanked (before ++ es) × Each (IsEntry g now number) (before ++ es)
+    → IsRanked before → AllByRecursion (IsEntry g now number) before
+    → IsRanked (before ++ es) × AllByRecursion (IsEntry g now number) (before ++ es)
 unfolding entries_fault
 entries_pass g now number before [] h r each = rw (append-nil before) (r, each)
 entries_pass g now number before (e ∷ es) h r each =
@@ -91,7 +91,7 @@ entries_pass g now number before (e ∷ es) h r each =
     let pass : Passes g now number before e = passes g now number before e both.0 in
     let ranked : IsRanked (before ++ e ∷ []) =
     ranked_push before e (each_both (λ x. e.time < x.time) (λ x. x.block ≢ e.block) before (all_later before e r pass.falls) (all_other before e pass.new)) r in
-    let more : Each (IsEntry g now number) (before ++ e ∷ []) =
+    let more : AllByRecursion (IsEntry g now number) (before ++ e ∷ []) =
     each_append (IsEntry g now number) before (e ∷ []) each (entry_of g now number before e pass, tt) in
     rw (← append_assoc before (e ∷ []) es) (entries_pass g now number (before ++ e ∷ []) es both.1 ranked more)
 
@@ -104,7 +104,7 @@ set_pass g now number es h =
         → cond b (Some (TooMany number 0)) (entries_fault g now number [] es) ≡ None → IsSet g now number es
     go true e h = absurd cc
     go false e h =
-        let all : IsRanked es × Each (IsEntry g now number) es = entries_pass g now number [] es h tt tt in
+        let all : IsRanked es × AllByRecursion (IsEntry g now number) es = entries_pass g now number [] es h tt tt in
         record { cut = omega (arith, ltb-false g.ways (length es) e); ranked = all.0; entries = all.1 }
 
 sets_pass : (g : Shape) (now number : ℕ) (sets : List (List Entry)) → sets_fault g now number sets ≡ None
@@ -131,22 +131,22 @@ recency_of_sound g time sets shape count sound = record {
 }
 
 -- and the entries of a snapshot break none
-each_behind : (P : Entry → Type 0) (xs ys : List Entry) (e : Entry) → Each P (xs ++ e ∷ ys) → P e
+each_behind : (P : Entry → Type 0) (xs ys : List Entry) (e : Entry) → AllByRecursion P (xs ++ e ∷ ys) → P e
 each_behind P [] ys e h = h.0
 each_behind P (x ∷ xs) ys e h = each_behind P xs ys e h.1
 
 ranked_behind : (before after : List Entry) (e : Entry) → IsRanked (before ++ e ∷ after)
-    → Each (λ x. (e.time < x.time) × (x.block ≢ e.block)) before
+    → AllByRecursion (λ x. (e.time < x.time) × (x.block ≢ e.block)) before
 ranked_behind [] after e h = tt
 ranked_behind (x ∷ xs) after e h =
     let own : (e.time < x.time) × (e.block ≢ x.block) = each_behind (λ y. (y.time < x.time) × (y.block ≢ x.block)) xs after e h.0 in
     ((own.0, λ same. own.1 (sym same)), ranked_behind xs after e h.1)
 
-none_repeats : (before : List Entry) (block : ℕ) → Each (λ x. x.block ≢ block) before → list_any (λ x. eqb x.block block) before ≡ false
+none_repeats : (before : List Entry) (block : ℕ) → AllByRecursion (λ x. x.block ≢ block) before → list_any (λ x. eqb x.block block) before ≡ false
 none_repeats [] block h = refl
 none_repeats (x ∷ xs) block h = rw (ne_eqb x.block block h.0) (none_repeats xs block h.1)
 
-last_later : (before : List Entry) (time : ℕ) → Each (λ x. time < x.time) before
+last_later : (before : List Entry) (time : ℕ) → AllByRecursion (λ x. time < x.time) before
     → is_no_later (slice_get before (length before - 1)) time ≡ false
 last_later [] time h = refl
 last_later (x ∷ []) time h = lt-leb x.time time h.0
@@ -158,7 +158,7 @@ entry_none : (g : Shape) (now number : ℕ) (before after : List Entry) (e : Ent
     → entry_fault g now number before e ≡ None
 unfolding entry_fault
 entry_none g now number before after e ranked entry =
-    let behind : Each (λ x. (e.time < x.time) × (x.block ≢ e.block)) before = ranked_behind before after e ranked in
+    let behind : AllByRecursion (λ x. (e.time < x.time) × (x.block ≢ e.block)) before = ranked_behind before after e ranked in
     rw (
       lt-ltb e.block (2 ^ (32 - g.line_log)) entry.block,
       eq-eqb (home_of g e.block) number entry.home,
@@ -167,7 +167,7 @@ entry_none g now number before after e ranked entry =
       last_later before e.time (each_weaker (λ x. (e.time < x.time) × (x.block ≢ e.block)) (λ x. e.time < x.time) before (λ x h. h.0) behind),
     ) refl
 
-entries_none : (g : Shape) (now number : ℕ) (before es : List Entry) → IsRanked (before ++ es) → Each (IsEntry g now number) es
+entries_none : (g : Shape) (now number : ℕ) (before es : List Entry) → IsRanked (before ++ es) → AllByRecursion (IsEntry g now number) es
     → entries_fault g now number before es ≡ None
 unfolding entries_fault
 entries_none g now number before [] ranked each = refl

@@ -5,7 +5,7 @@ use Rattle.std.proofs.lemmas.Bool.{cases_eq, cases_Bool, false≢true, or_left, 
 use Rattle.std.proofs.lemmas.List.{get_or-drop, length-drop}
 use Rattle.lru_plain.specs.Shape.{Shape, home_of}
 use Rattle.recency_record.specs.declared.entry.Entry.{Entry}
-use Rattle.recency_record.specs.Each.{Each}
+use Rattle.std.specs.List.{AllByRecursion}
 use Rattle.recency_record.specs.Uses.{is_last_place, uses_before, last_uses, entries_of, IsLastPlace, places_below, later_last_places}
 use Rattle.recency_record.specs.Recency.{HoldsLastUses, record_of, blocks_of, IsRanked}
 use Rattle.recency_record.proofs.Eachs.{each_weaker}
@@ -29,7 +29,7 @@ contains_among [] e (k, h, at) = absurd (omega (arith, h))
 contains_among (x ∷ xs) e (zero, h, at) = inl at
 contains_among (x ∷ xs) e (suc k, h, at) = inr (contains_among xs e (k, (omega (arith, h)), at))
 
-each_among : (P : Entry → Type 0) (es : List Entry) (e : Entry) → Each P es → Among es e → P e
+each_among : (P : Entry → Type 0) (es : List Entry) (e : Entry) → AllByRecursion P es → Among es e → P e
 each_among P [] e h at = absurd at
 each_among P (x ∷ xs) e h (inl same) = subst P same h.0
 each_among P (x ∷ xs) e h (inr behind) = each_among P xs e h.1 behind
@@ -59,7 +59,7 @@ abbrev later : ℕ → List Entry → List Entry
 later t es = filter (λ x. ltb t x.time) es
 
 -- none is later than one that all are earlier than
-later_none : (t : ℕ) (es : List Entry) → Each (λ x. x.time < t) es → length (later t es) ≡ 0
+later_none : (t : ℕ) (es : List Entry) → AllByRecursion (λ x. x.time < t) es → length (later t es) ≡ 0
 later_none t [] h = refl
 later_none t (x ∷ xs) h = rw (le-ltb t x.time (le_of_lt h.0)) (later_none t xs h.1)
 
@@ -72,7 +72,7 @@ taken_among : (n : ℕ) (es : List Entry) (e : Entry) → IsRanked es → Among 
 taken_among zero es e ranked h = absurd h
 taken_among (suc n) [] e ranked h = absurd h
 taken_among (suc n) (x ∷ xs) e ranked (inl same) =
-    let all : Each (λ y. y.time < e.time) xs =
+    let all : AllByRecursion (λ y. y.time < e.time) xs =
     each_weaker (λ y. (y.time < x.time) × (y.block ≢ x.block)) (λ y. y.time < e.time) xs
     (λ y h. rw (← same) h.0) ranked.0 in
     let time : x.time ≡ e.time = ap (λ (y : Entry). y.time) same in

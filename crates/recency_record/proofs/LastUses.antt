@@ -4,7 +4,7 @@ use Rattle.std.specs.List.{list_any}
 use Rattle.std.proofs.lemmas.Bool.{cases_eq, cases_Bool, ne_eqb}
 use Rattle.std.proofs.lemmas.List.{get_or_append_left, get_or_push, length_push, drop_all}
 use Rattle.recency_record.specs.declared.entry.Entry.{Entry}
-use Rattle.recency_record.specs.Each.{Each}
+use Rattle.std.specs.List.{AllByRecursion}
 use Rattle.recency_record.specs.Uses.{is_last_place, uses_before, last_uses}
 use Rattle.recency_record.specs.Recency.{others, IsRanked}
 use Rattle.recency_record.proofs.Ranks.{ranked_more}
@@ -78,7 +78,7 @@ last_uses_more xs b new block time =
     rw (length_push xs b, add-one, last_at_end xs b, here, uses_push xs b (length xs) (omega arith), ← block, ← time) refl
 
 -- all are before the place
-uses_early : (xs : List ℕ) (t n : ℕ) → t ≤ n → Each (λ e. e.time < n) (uses_before xs t)
+uses_early : (xs : List ℕ) (t n : ℕ) → t ≤ n → AllByRecursion (λ e. e.time < n) (uses_before xs t)
 uses_early xs zero n h = tt
 uses_early xs (suc t) n h =
     elim (cases_Bool (is_last_place xs t)) [
@@ -86,7 +86,7 @@ uses_early xs (suc t) n h =
       | inr q ↦ rw q (uses_early xs t n (omega arith))
     ]
 
-pub last_uses_early : (xs : List ℕ) → Each (λ e. e.time < length xs) (last_uses xs)
+pub last_uses_early : (xs : List ℕ) → AllByRecursion (λ e. e.time < length xs) (last_uses xs)
 unfolding last_uses
 last_uses_early xs = uses_early xs (length xs) (length xs) (omega arith)
 

@@ -2,7 +2,7 @@
 use Rattle.std.proofs.Common.{◌≡◌, ◌≢◌, ℕ, zero, suc, ◌<◌, Bool, true, false, not, eqb, List, [], ◌∷◌, ◌++◌, take, filter, refl, sym, ap, ◌∙◌, inl, inr, eq-eqb}
 use Rattle.std.proofs.lemmas.Bool.{cases_eq, cases_Bool, ne_eqb}
 use Rattle.recency_record.specs.declared.entry.Entry.{Entry}
-use Rattle.recency_record.specs.Each.{Each}
+use Rattle.std.specs.List.{AllByRecursion}
 use Rattle.recency_record.specs.Recency.{others, IsRanked}
 use Rattle.recency_record.proofs.Eachs.{each_weaker, each_filter, each_take, each_append, filter_all}
 
@@ -27,7 +27,7 @@ other_test block e h = rw (ne_eqb e.block block h) refl
 pub same_test : (block : ℕ) (e : Entry) → e.block ≡ block → not (eqb e.block block) ≡ false
 same_test block e h = rw (eq-eqb e.block block h) refl
 
-pub others_differ : (block : ℕ) (es : List Entry) → Each (λ e. e.block ≢ block) (others block es)
+pub others_differ : (block : ℕ) (es : List Entry) → AllByRecursion (λ e. e.block ≢ block) (others block es)
 others_differ block [] = tt
 others_differ block (e ∷ es) =
     elim (cases_eq e.block block) [
@@ -36,7 +36,7 @@ others_differ block (e ∷ es) =
     ]
 
 -- where the block is in none, they are all others
-pub others_all : (block : ℕ) (es : List Entry) → Each (λ e. e.block ≢ block) es → others block es ≡ es
+pub others_all : (block : ℕ) (es : List Entry) → AllByRecursion (λ e. e.block ≢ block) es → others block es ≡ es
 others_all block es h =
     filter_all (λ e. not (eqb e.block block)) es
     (each_weaker (λ e. e.block ≢ block) (λ e. not (eqb e.block block) ≡ true) es (other_test block) h)
@@ -77,7 +77,7 @@ used_of_cut (suc n) e es h = ap (λ (l : List Entry). e ∷ l) (others_of_more e
 
 -- an entry later than all, in front of the others
 pub ranked_more :
-    (e : Entry) (es : List Entry) → Each (λ x. x.time < e.time) es → IsRanked es
+    (e : Entry) (es : List Entry) → AllByRecursion (λ x. x.time < e.time) es → IsRanked es
     → IsRanked (e ∷ others e.block es)
 ranked_more e es late h = (
   both (others e.block es) (each_filter (λ x. x.time < e.time) (λ x. not (eqb x.block e.block)) es late)
@@ -85,14 +85,14 @@ ranked_more e es late h = (
   ranked_filter (λ x. not (eqb x.block e.block)) es h,
 )
   where
-    both : (xs : List Entry) → Each (λ x. x.time < e.time) xs → Each (λ x. x.block ≢ e.block) xs
-        → Each (λ x. (x.time < e.time) × (x.block ≢ e.block)) xs
+    both : (xs : List Entry) → AllByRecursion (λ x. x.time < e.time) xs → AllByRecursion (λ x. x.block ≢ e.block) xs
+        → AllByRecursion (λ x. (x.time < e.time) × (x.block ≢ e.block)) xs
     both [] a b = tt
     both (x ∷ xs) a b = ((a.0, b.0), both xs a.1 b.1)
 
 -- an entry behind the others
 pub ranked_push :
-    (es : List Entry) (e : Entry) → Each (λ x. (e.time < x.time) × (x.block ≢ e.block)) es → IsRanked es
+    (es : List Entry) (e : Entry) → AllByRecursion (λ x. (e.time < x.time) × (x.block ≢ e.block)) es → IsRanked es
     → IsRanked (es ++ e ∷ [])
 ranked_push [] e h r = (tt, tt)
 ranked_push (x ∷ xs) e h r = (

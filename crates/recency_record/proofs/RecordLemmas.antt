@@ -7,7 +7,7 @@ use Rattle.lru_plain.specs.Shape.{Shape, IsShape, sets_of, block_of, home_of}
 use Rattle.lru_plain.specs.Lists.{places_of, without_block, used, Listing}
 use Rattle.lru_plain.proofs.Segments.{set_in_places, set_here, set_elsewhere, segment_within, segment_length}
 use Rattle.recency_record.specs.declared.entry.Entry.{Entry}
-use Rattle.recency_record.specs.Each.{Each}
+use Rattle.std.specs.List.{AllByRecursion}
 use Rattle.recency_record.specs.Recency.{IsRecency, IsSet, IsEntry, IsRanked, others, referred}
 use Rattle.recency_record.specs.Slots.{Slots, by_time, taken, ordered, stamp_of, HoldsBlock, slot_at, GoesTo, slots_for, IsReferred, IsPlaceFor, placed, slot_of, row_of, slots_in}
 use Rattle.recency_record.proofs.Eachs.{each_weaker}
@@ -121,7 +121,7 @@ ordered_referred r addr after is long h =
     ranked : IsRanked (by_time (taken (get_or r.slots (home_of r.shape (block_of r.shape addr)) [])))
     ranked = set_is.ranked
 
-    early : Each (λ x. x.time < r.time) (by_time (taken (get_or r.slots (home_of r.shape (block_of r.shape addr)) [])))
+    early : AllByRecursion (λ x. x.time < r.time) (by_time (taken (get_or r.slots (home_of r.shape (block_of r.shape addr)) [])))
     early = each_weaker (IsEntry r.shape r.time (home_of r.shape (block_of r.shape addr))) (λ x. x.time < r.time)
         (by_time (taken (get_or r.slots (home_of r.shape (block_of r.shape addr)) []))) (λ x k. k.time) set_is.entries
 
@@ -203,7 +203,7 @@ module _ (g : Shape) (bs ss : List ℕ) (bs_long : length bs ≡ sets_of g * g.w
     home_is : place / g.ways ≡ home_of g block
     unfolding ordered
     home_is =
-        let entries : Each (IsEntry g time (place / g.ways)) (by_time (taken (row_of (places_of g bs (place / g.ways)) (places_of g ss (place / g.ways))))) =
+        let entries : AllByRecursion (IsEntry g time (place / g.ways)) (by_time (taken (row_of (places_of g bs (place / g.ways)) (places_of g ss (place / g.ways))))) =
         rw (ordered_read time (place / g.ways) set_below) at (is.sets (place / g.ways) set_below).entries in
         let at : slot_at (row_of (places_of g bs (place / g.ways)) (places_of g ss (place / g.ways))) (place % g.ways) ≡ Some (entry_at (get_or bs place 0) (get_or ss place 0 - 1)) =
         ap (λ (l : List (Option Entry)). slot_at l (place % g.ways)) (sym (slots_read g bs ss (place / g.ways) set_below))

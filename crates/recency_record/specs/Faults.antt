@@ -1,7 +1,7 @@
 -- Which rule of a record a list of entries breaks first.
 use Rattle.std.specs.Prelude.{ℕ, ◌+◌, ◌-◌, ◌^◌, ◌==◌, nat_lt, nat_le, Bool, false, not, ◌&&◌, if◌then◌else◌, Option, Some, None, Result, Ok, Err, List, [], ◌∷◌, ◌++◌, length, take, drop, slice_get}
 use Rattle.std.specs.List.{list_any}
-use Rattle.smarts_base.specs.Least.{or_else}
+use Rattle.std.specs.Option.{option_or}
 use Rattle.lru_plain.specs.Shape.{Shape, home_of}
 use Rattle.recency_record.specs.declared.entry.Entry.{Entry}
 use Rattle.recency_record.specs.declared.fault.RecordFault.{RecordFault}
@@ -33,13 +33,13 @@ time_fault now set before time =
 
 -- the first rule that an entry breaks behind those before it in its set
 unfoldable pub entry_fault : Shape → ℕ → ℕ → List Entry → Entry → Option RecordFault
-entry_fault g now set before e = or_else (block_fault g set before e.block) (time_fault now set before e.time)
+entry_fault g now set before e = option_or (block_fault g set before e.block) (time_fault now set before e.time)
 
 -- the first that an entry of a set breaks, behind those before
 unfoldable pub entries_fault : Shape → ℕ → ℕ → List Entry → List Entry → Option RecordFault
 entries_fault g time set before [] = None
 entries_fault g time set before (e ∷ es) =
-    or_else (entry_fault g time set before e) (entries_fault g time set (before ++ e ∷ []) es)
+    option_or (entry_fault g time set before e) (entries_fault g time set (before ++ e ∷ []) es)
 
 -- the first that a set breaks
 unfoldable pub set_fault : Shape → ℕ → ℕ → List Entry → Option RecordFault
@@ -49,7 +49,7 @@ set_fault g time set es =
 -- the first that the sets from this number on break
 unfoldable pub sets_fault : Shape → ℕ → ℕ → List (List Entry) → Option RecordFault
 sets_fault g time set [] = None
-sets_fault g time set (es ∷ rest) = or_else (set_fault g time set es) (sets_fault g time (set + 1) rest)
+sets_fault g time set (es ∷ rest) = option_or (set_fault g time set es) (sets_fault g time (set + 1) rest)
 
 -- entries dealt out to sets, so many to each in turn
 abbrev pub dealt : List ℕ → List Entry → List (List Entry)

@@ -1,4 +1,3 @@
-pub mod Each
 pub mod Uses
 pub mod Recency
 pub mod Slots

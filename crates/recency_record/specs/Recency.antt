@@ -3,7 +3,7 @@ use Rattle.std.specs.Prelude.{◌≡◌, ◌≢◌, ℕ, ◌+◌, ◌-◌, ◌^�
 use Rattle.std.specs.List.{range_with_len}
 use Rattle.lru_plain.specs.Shape.{Shape, IsShape, sets_of, block_of, home_of}
 use Rattle.recency_record.specs.declared.entry.Entry.{Entry}
-use Rattle.recency_record.specs.Each.{Each}
+use Rattle.std.specs.List.{AllByRecursion}
 use Rattle.recency_record.specs.Uses.{last_uses, entries_of, IsLastPlace, later_last_places}
 
 -- the shape, the number of references, and the entries of each set by falling time
@@ -62,7 +62,7 @@ referred r addr =
 -- the times strictly fall, and no block comes twice
 abbrev pub IsRanked : List Entry → Type 0
 IsRanked [] = Unit {0}
-IsRanked (e ∷ es) = Each (λ later. (later.time < e.time) × (later.block ≢ e.block)) es × IsRanked es
+IsRanked (e ∷ es) = AllByRecursion (λ later. (later.time < e.time) × (later.block ≢ e.block)) es × IsRanked es
 
 -- the entry may stand in this set
 pub record IsEntry (g : Shape) (now set : ℕ) (e : Entry) : Type 0 where
@@ -74,7 +74,7 @@ pub record IsEntry (g : Shape) (now set : ℕ) (e : Entry) : Type 0 where
 pub record IsSet (g : Shape) (time set : ℕ) (es : List Entry) : Type 0 where
   pub cut : length es ≤ g.ways
   pub ranked : IsRanked es
-  pub entries : Each (IsEntry g time set) es
+  pub entries : AllByRecursion (IsEntry g time set) es
 
 -- these may be the entries of all sets
 abbrev pub AreSets : Shape → ℕ → List (List Entry) → Type 0

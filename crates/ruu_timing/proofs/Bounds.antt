@@ -2,7 +2,8 @@
 use Rattle.std.proofs.Common.{Bor, List, Option, arith, length, option_copied, refl, suc, zero, ℕ, ◌≡◌, ◌+◌, ◌*◌, ◌^◌, ◌<◌, ◌≤◌, [], ◌∷◌}
 use Rattle.std.specs.List.{slice_get}
 use Rattle.std.specs.Option.{IfSome}
-use Rattle.ruu_timing.specs.Timed.{AreInOrder, AreTimed, Each, IsWithin, last_of}
+use Rattle.ruu_timing.specs.Timed.{AreInOrder, AreTimed, IsWithin, last_of}
+use Rattle.std.specs.List.{AllByRecursion}
 use Rattle.ruu_timing.specs.Times.{time_of}
 use Rattle.ruu_timing.specs.declared.timed.Timed.{Timed}
 use Rattle.ruu_timing.proofs.Elements.{each_get, each_more, lent}
@@ -64,7 +65,7 @@ pub last_small : (earlier : List Timed) → AreTimed earlier → last_of earlier
 last_small earlier timed = omega (arith, last_within earlier timed.order, timed.few)
 
 -- the same at the bound that no trace passes
-pub small : (earlier : List Timed) → AreTimed earlier → Each (IsWithin (2 ^ 32)) earlier
+pub small : (earlier : List Timed) → AreTimed earlier → AllByRecursion (IsWithin (2 ^ 32)) earlier
 small earlier timed =
     each_more (IsWithin (last_of earlier)) (IsWithin (2 ^ 32))
     (within_more (last_of earlier) (2 ^ 32) (last_small earlier timed)) earlier timed.each

@@ -10,17 +10,18 @@ use Rattle.smarts_base.proofs.Leasts.{least_below_is, least_below_some}
 use Rattle.smarts_base.specs.Least.{IsLeast, IsLeastIfAny, least_below}
 use Rattle.ruu_timing.specs.Class.{limit_of}
 use Rattle.ruu_timing.specs.Laws.{IsFirst}
-use Rattle.ruu_timing.specs.Timed.{AreTimed, Each, IsWithin, last_of}
+use Rattle.ruu_timing.specs.Timed.{AreTimed, IsWithin, last_of}
+use Rattle.std.specs.List.{AllByRecursion}
 use Rattle.ruu_timing.specs.Times.{has_slot, issue_of, issues_alike, issues_at}
 use Rattle.ruu_timing.specs.declared.timed.Timed.{Timed}
 use Rattle.ruu_timing.proofs.Elements.{filter_none}
 
-not_at : (t last : ℕ) → last ≤ t → (earlier : List Timed) → Each (IsWithin last) earlier → Each (λ x. issues_at t x ≡ false) earlier
+not_at : (t last : ℕ) → last ≤ t → (earlier : List Timed) → AllByRecursion (IsWithin last) earlier → AllByRecursion (λ x. issues_at t x ≡ false) earlier
 not_at t last le [] each = tt
 not_at t last le (x ∷ xs) each =
     (ne_eqb x.issue t (λ e. let h : x.issue < last = each.0.issue in omega arith), not_at t last le xs each.1)
 
-not_alike : (class : Class) (t last : ℕ) → last ≤ t → (earlier : List Timed) → Each (IsWithin last) earlier → Each (λ x. issues_alike class t x ≡ false) earlier
+not_alike : (class : Class) (t last : ℕ) → last ≤ t → (earlier : List Timed) → AllByRecursion (IsWithin last) earlier → AllByRecursion (λ x. issues_alike class t x ≡ false) earlier
 not_alike class t last le [] each = tt
 not_alike class t last le (x ∷ xs) each =
     let e : (x.issue == t) ≡ false = ne_eqb x.issue t (λ e. let h : x.issue < last = each.0.issue in omega arith) in

@@ -11,7 +11,8 @@ use Rattle.hierarchy.specs.Widths.{AreWidths}
 use Rattle.hierarchy.specs.declared.marked.Marked.{Marked}
 use Rattle.hierarchy.specs.declared.widths.Widths.{Widths}
 use Rattle.ruu_timing.specs.Laws.{IssuesAtFirst, IssueFirst}
-use Rattle.ruu_timing.specs.Timed.{AreTimed, Each}
+use Rattle.ruu_timing.specs.Timed.{AreTimed}
+use Rattle.std.specs.List.{AllByRecursion}
 use Rattle.ruu_timing.specs.Times.{back, cycles, issue_of, time_of, timed_after, timed_of, times}
 use Rattle.ruu_timing.specs.declared.timed.Timed.{Timed}
 use Rattle.ruu_timing.proofs.Bounds.{retired, retired_in_order, retired_soon, retired_wide}
@@ -71,7 +72,7 @@ total_most rows k timed le =
 -- every trace has times within their bounds
 pub after_timed :
     (w : Widths) (earlier : List Timed) (ms : List Marked) → AreWidths w → AreTimed earlier
-    → length earlier + length ms ≤ 110000 → Each IsMarked ms → AreTimed (timed_after w earlier ms)
+    → length earlier + length ms ≤ 110000 → AllByRecursion IsMarked ms → AreTimed (timed_after w earlier ms)
 unfolding timed_after
 after_timed w earlier [] widths timed few marks = timed
 after_timed w earlier (m ∷ ms) widths timed few marks =

@@ -1,13 +1,9 @@
 -- What holds of the times of each trace of at most 110,000 instructions: none passes the last
 -- retirement, and retirements rise, but not fast.
 use Rattle.std.specs.Prelude.{ℕ, ◌+◌, ◌<◌, ◌≤◌, List, [], ◌∷◌, length}
+use Rattle.std.specs.List.{AllByRecursion}
 use Rattle.ruu_timing.specs.declared.timed.Timed.{Timed}
 use Rattle.ruu_timing.specs.Times.{back, time_of}
-
--- what holds of each element of a list
-abbrev pub Each : {X : Type 0} → (X → Type 0) → List X → Type 0
-Each P [] = Unit {0}
-Each P (x ∷ xs) = P x × Each P xs
 
 -- it is retired by a cycle, and all else came before
 pub record IsWithin (last : ℕ) (x : Timed) : Type 0 where
@@ -34,6 +30,6 @@ AreInOrder (x ∷ earlier) = IsRetiredAfter earlier x × AreInOrder earlier
 
 -- the times of so many instructions, the latest first
 pub record AreTimed (earlier : List Timed) : Type 0 where
-  pub each : Each (IsWithin (last_of earlier)) earlier
+  pub each : AllByRecursion (IsWithin (last_of earlier)) earlier
   pub order : AreInOrder earlier
   pub few : length earlier ≤ 110000

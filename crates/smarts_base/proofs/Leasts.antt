@@ -1,7 +1,8 @@
 -- What holds of the least number below a bound that passes a test.
 use Rattle.std.proofs.Common.{◌≡◌, ◌<◌, ◌+◌, ℕ, Bool, true, false, if◌then◌else◌, Option, Some, None, zero, suc, refl, arith, add-one, inl, inr, subst}
 use Rattle.std.proofs.lemmas.Bool.{cases_lt}
-use Rattle.smarts_base.specs.Least.{least_below, or_else, NonePasses, IsLeast, IsLeastIfAny}
+use Rattle.smarts_base.specs.Least.{least_below, NonePasses, IsLeast, IsLeastIfAny}
+use Rattle.std.specs.Option.{option_or}
 
 pub least_below_none :
     (n : ℕ) (test : ℕ → Bool) → ((k : ℕ) → k < n → test k ≡ false) → least_below n test ≡ None
@@ -61,7 +62,7 @@ more_fail n test fails last k h =
 one_more :
     (n : ℕ) (test : ℕ → Bool) (found : Option ℕ) (last : Bool)
     → test n ≡ last → IsLeastIfAny n test found
-    → IsLeastIfAny (suc n) test (or_else found (if last then Some n else None))
+    → IsLeastIfAny (suc n) test (option_or found (if last then Some n else None))
 one_more n test (Some m) last e least =
     record { below = omega (arith, least.below); passes = least.passes; first = least.first }
 one_more n test None true e fails = record { below = omega arith; passes = e; first = fails }

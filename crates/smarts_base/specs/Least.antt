@@ -1,16 +1,12 @@
 -- The least number below a bound that passes a test, and what holds of it.
 use Rattle.std.specs.Prelude.{◌≡◌, ◌<◌, ℕ, Bool, true, false, if◌then◌else◌, Option, Some, None, zero, suc}
-
--- the first of two values that is there
-abbrev pub or_else : {A : Type 0} → Option A → Option A → Option A
-or_else (Some x) second = Some x
-or_else None second = second
+use Rattle.std.specs.Option.{option_or}
 
 -- the least number below the bound that passes the test
 unfoldable pub least_below : ℕ → (ℕ → Bool) → Option ℕ
 least_below zero test = None
 least_below (suc bound) test =
-    or_else (least_below bound test) (if test bound then Some bound else None)
+    option_or (least_below bound test) (if test bound then Some bound else None)
 
 -- no number below the bound passes the test
 abbrev pub NonePasses : ℕ → (ℕ → Bool) → Type 0
