@@ -16,3 +16,6 @@ pub use board::Board;
 pub use claim::Claim;
 pub use pass::Pass;
 pub use rule::{Key, Listed, Note, Rule, View};
+
+#[cfg(test)]
+mod tests;
