@@ -42,6 +42,7 @@ IsOver v = (v.seat.past ≡ true) ⊎ (v.seat.seen_end ≢ None)
 
 pub record Tells (lists : List (List Answer)) (v : View) (words : List ℕ) : Type 0 where
   pub cells : HasCells v.start (answers_of lists v) words
+  pub sound : IsSound (fold_from v.start (answers_of lists v) (length (answers_of lists v)))
   pub folded : folded_number v.start (fold_from v.start (answers_of lists v) (length (answers_of lists v))) ≤ v.points
   pub points : v.points ≤ length (answers_of lists v)
 
@@ -51,6 +52,7 @@ pub tells :
     → v.seat.hand ≡ None → IsAlone v → IsOver v → Tells lists v s.words
 tells lists s id v board at live bare alone over = record {
   cells = λ k below goes. (get_or answers k (Cycles 0), slice_get-get_or answers k (Cycles 0) below, holds k below goes);
+  sound = (prefix_of v.start answers size board.batch (omega arith)).sound;
   folded = omega (arith, points, folded, most);
   points = omega (arith, points);
 }
@@ -156,6 +158,7 @@ tells lists s id v board at live bare alone over = record {
 -- the same of a board that was ended, in terms of the board
 pub record Closes (lists : List (List Answer)) (board : BoardShown) (v : View) (words : List ℕ) : Type 0 where
   pub cells : HasCells board.start (list_at lists board.which) words
+  pub sound : IsSound (fold_from board.start (list_at lists board.which) board.size)
   pub folded : folded_number board.start (fold_from board.start (list_at lists board.which) board.size) ≤ v.points
   pub points : v.points ≤ board.size
 
@@ -174,9 +177,12 @@ closes lists key board pass words slots (s, (holds, at), same, homes, values) of
     let cells : HasCells board.start (list_at lists board.which) s.words = subst (λ (p : Front × ℕ). HasCells p.0 (list_at lists p.1) s.words) batch told.cells in
     let folded : folded_number board.start (fold_from board.start (list_at lists board.which) (length (list_at lists board.which))) ≤ v.points =
     subst (λ (p : Front × ℕ). folded_number p.0 (fold_from p.0 (list_at lists p.1) (length (list_at lists p.1))) ≤ v.points) batch told.folded in
+    let sound : IsSound (fold_from board.start (list_at lists board.which) (length (list_at lists board.which))) =
+    subst (λ (p : Front × ℕ). IsSound (fold_from p.0 (list_at lists p.1) (length (list_at lists p.1)))) batch told.sound in
     let points : v.points ≤ length (list_at lists board.which) = subst (λ (p : Front × ℕ). v.points ≤ length (list_at lists p.1)) batch told.points in
     record {
       cells = subst (HasCells board.start (list_at lists board.which)) same cells;
+      sound = subst (λ n. IsSound (fold_from board.start (list_at lists board.which) n)) (sym size) sound;
       folded = subst (λ n. folded_number board.start (fold_from board.start (list_at lists board.which) n) ≤ v.points) (sym size) folded;
       points = omega (arith, points, size);
     }

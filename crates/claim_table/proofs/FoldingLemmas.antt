@@ -31,25 +31,6 @@ pub taken_slot :
 taken_slot lists me after n idle tried even =
     ap (λ m. m.1) (tried.got even) ∙ ap (λ l. (0, Some (front_at lists me.0 (n / 2))) ∷ l) idle.slots
 
-pub taken_front :
-    (lists : List (List Answer)) (me after : Holding) (n : ℕ) (front : Front) → IsAtRest me
-    → Tried lists me n after → n % 2 ≡ 0 → front ≡ front_at lists me.0 (n / 2)
-    → HasFront lists (after.0, (0, None) ∷ []) None front
-taken_front lists me after n front idle tried even same =
-    subst (λ v. HasFront lists (v, (0, None) ∷ []) None front) (sym (ap (λ m. m.0) (tried.got even)))
-    (subst (λ f. HasFront lists (holding_view n me.0, (0, None) ∷ []) None f) (sym same)
-    (record {
-      live = idle.live;
-      holder = refl;
-      slots = refl;
-      front_is = refl;
-      within = (tried.drawn even).0;
-      batch = tried.batch;
-      sound = tried.sound even;
-      count = tried.count even;
-      drawn = λ alone. (tried.drawn even).1 alone;
-    }))
-
 -- the front's place in the batch, while it goes on
 pub place_of :
     (lists : List (List Answer)) (me : Holding) (front : Front) → HasFront lists me None front
@@ -80,24 +61,6 @@ glanced_front lists me after n front has below glanced full =
   where
     same : front_at lists me.0 (me.0.held + 1) ≡ pushed front (answer_of n)
     same = glanced.next full ∙ ap (λ f. pushed f (answer_of n)) (sym has.front_is)
-
--- a Glance at an empty cell leaves the front as it is
-pub waited_front :
-    (lists : List (List Answer)) (me after : Holding) (front : Front) → HasFront lists me None front
-    → Glanced lists me 0 after → HasFront lists after None front
-waited_front lists me after front has glanced =
-    subst (λ m. HasFront lists m None front) (sym (glanced.empty refl))
-    (record {
-      live = has.live;
-      holder = has.holder;
-      slots = has.slots;
-      front_is = has.front_is;
-      within = has.within;
-      batch = has.batch;
-      sound = has.sound;
-      count = has.count;
-      drawn = has.drawn;
-    })
 
 pub glances_at :
     (lists : List (List Answer)) (key : Key) (slots id : ℕ) (me : Holding) (front : Front) (place : ℕ)

@@ -3,6 +3,7 @@
 ghost use Rattle.std.specs.Prelude.{◌≡◌, ◌≢◌, ◌⊎◌, ◌+◌, ◌<◌, ◌≤◌, ℕ, true, None, length};
 ghost use Rattle.std.specs.Slots.{slots_items, slots_len, IsFull};
 ghost use Rattle.ordered_fold.specs.Batch.{fold_from, folded_number, IsBatch};
+ghost use Rattle.ordered_fold.specs.Front.{IsSound};
 ghost use Rattle.claim_table.specs.Board.{list_at, IsAlone};
 ghost use Rattle.claim_table.specs.Shown.{IsPassOf};
 ghost use Rattle.claim_table.specs.Closing.{HasCells};
@@ -48,6 +49,7 @@ impl<L: Listed> Board<L> {
         requires hand { pass.view.seat.hand ≡ None }
         requires done { (pass.view.seat.past ≡ true) ⊎ (pass.view.seat.seen_end ≢ None) }
         ensures front { result ≡ fold_from self.start (list_at L.lists self.which) self.size }
+        ensures sound { IsSound result }
         ensures points { (folded_number self.start result ≤ pass.view.points) × (pass.view.points ≤ self.size) }
     {
         let (start, size, which) = (self.start, self.size, self.which);

@@ -32,10 +32,6 @@ pub code-some : (answer : Answer) → IsHeldAnswer answer → code answer ≢ 0
 code-some (Cycles cycles) held = λ e. omega (arith, held.0, e)
 code-some (Fault fault) held = λ e. omega (arith, (kind_number-some fault.kind).0, e)
 
-pub code-fits : (answer : Answer) → IsHeldAnswer answer → code answer < 2 ^ 64
-code-fits (Cycles cycles) held = omega (arith, held.1)
-code-fits (Fault fault) held = omega (arith, held, (kind_number-some fault.kind).1)
-
 pub answer_of-code : (answer : Answer) → IsHeldAnswer answer → answer_of (code answer) ≡ answer
 answer_of-code (Cycles cycles) held =
     let small : cycles < 2 ^ 32 = omega (arith, held.1) in

@@ -15,9 +15,10 @@ use Rattle.ordered_fold.specs.declared.event.CoreEvent.{CoreEvent}
 use Rattle.ordered_fold.specs.Batch.{IsHeldAnswer, IsBatch}
 use Rattle.ordered_fold.specs.Machine.{Core, unmade, seat_at, cell_at, core_start, core_step, drawing, joined_of, is_idle, can_claim, can_report, reported, can_glance, can_announce, can_look, can_split, can_join, acted}
 use Rattle.ordered_fold.specs.Invariant.{IsCore}
-use Rattle.ordered_fold.specs.Front.{first_front}
+use Rattle.ordered_fold.specs.Front.{first_front, IsSound}
 use Rattle.ordered_fold.specs.CoreRun.{IsRun}
 use Rattle.ordered_fold.proofs.Fronts.{not_both}
+use Rattle.ordered_fold.proofs.RoomLemmas.{has_room}
 use Rattle.ordered_fold.proofs.RunLemmas.{start_is_core, step_keeps, steps_keep}
 
 pub start_is_run :
@@ -90,25 +91,6 @@ step_is_run start answers core event is = record {
   seats = omega (arith, is.seats, step_seats start answers core event);
 }
 
--- nobody holds where the lock is even
-pub at_home :
-    (start : Front) (answers : List Answer) (core : Core) → IsCore start answers core
-    → core.lock % 2 ≡ 0 → (j : ℕ) → (seat_at core.seats j).holder ≡ false
-at_home start answers core is even j = by (cases_Bool (seat_at core.seats j).holder)
-  where
-    by :
-        ((seat_at core.seats j).holder ≡ true) ⊎ ((seat_at core.seats j).holder ≡ false)
-        → (seat_at core.seats j).holder ≡ false
-    by (inl holds) = absurd (omega (arith, ((is.each j).holder holds).1, even))
-    by (inr free) = free
-
-pub not_at_home :
-    (start : Front) (answers : List Answer) (core : Core) → IsCore start answers core
-    → core.lock % 2 ≢ 0 → ((j : ℕ) → (seat_at core.seats j).holder ≡ false) → ⊥
-not_at_home start answers core is odd free =
-    let (j, holds) = is.held (omega (arith, odd)) in
-    not_both (seat_at core.seats j).holder holds (free j)
-
 -- a list may be folded from no answers on
 pub batch_of_all :
     (answers : List Answer) (test : Test) → 0 < length answers → length answers ≤ 65536
@@ -138,3 +120,9 @@ run_is_core answers test seats events some most held range any =
     let batch = batch_of_all answers test some most held range in
     steps_keep start answers (core_start start (length answers) seats) events batch
     (start_is_core start answers seats batch any)
+
+-- the front of a machine is sound, wherever it is
+pub front_sound :
+    (start : Front) (answers : List Answer) (core : Core)
+    → IsRun (record { start = start; answers = answers; core = core }) → IsSound core.front
+front_sound start answers core is = (has_room start answers core is.batch is.core is.seats).sound

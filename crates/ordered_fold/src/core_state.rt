@@ -1,6 +1,6 @@
 ghost use Rattle.std.specs.Prelude.{◌≡◌, ◌↔◌, ◌<◌, ◌≤◌, ◌^◌, ℕ, false, length, fold, All, IfOk, IfSome, IsSome};
 ghost use Rattle.confidence.specs.Confidence.{IsInRange};
-ghost use Rattle.ordered_fold.specs.Front.{first_front};
+ghost use Rattle.ordered_fold.specs.Front.{first_front, IsSound};
 ghost use Rattle.ordered_fold.specs.Batch.{IsHeldAnswer, IsBatch};
 ghost use Rattle.ordered_fold.specs.Machine.{seat_at, cell_at, core_start, core_step as step_of, core_after};
 ghost use Rattle.ordered_fold.specs.Invariant.{IsCore};
@@ -122,6 +122,7 @@ impl CoreState {
     /// The front, where no seat holds.
     pub fn home(&self) -> Option<&Front>
         ensures front { IfSome result (λ front. front.now ≡ self.now.core.front) }
+        ensures sound { IfSome result (λ front. IsSound front.now) }
         ensures home { IsSome result ↔ ((j : ℕ) → (seat_at self.now.core.seats j).holder ≡ false) }
     {
         if self.machine.lock % 2 == 0 {
@@ -133,7 +134,8 @@ impl CoreState {
 
     /// The front, wherever it is.
     pub fn front(&self) -> &Front
-        ensures { result.now ≡ self.now.core.front }
+        ensures value { result.now ≡ self.now.core.front }
+        ensures sound { IsSound result.now }
     {
         &self.machine.front
     }

@@ -72,3 +72,13 @@ fn leaves_a_fault_out(rt: HostRuntime) {
     );
     assert_eq!(rt; front.count(), 1);
 }
+
+/// Takes types that may go from one thread to another.
+fn is_sent<T: Send>(_: &T) {}
+
+#[test]
+fn may_go_to_another_thread(rt: HostRuntime) {
+    let front = Front::new(3, TEST);
+    is_sent(&front);
+    assert_eq!(rt; (front.total(), front.pushed(), front.is_going()), (3, 0, true));
+}
