@@ -11,3 +11,4 @@ pub mod Issue
 pub mod Dispatch
 pub mod Fetch
 pub mod Machine
+pub mod Shown

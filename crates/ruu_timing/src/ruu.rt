@@ -20,13 +20,13 @@ pub struct Ruu {
 }
 
 impl Model for Ruu {
-    ghost use Rattle.hierarchy.specs.declared.widths.Widths.{Widths as WidthsValue};
     ghost use Rattle.hierarchy.specs.Widths.{AreWidths};
     ghost use Rattle.ruu_timing.specs.Pipeline.{IsSized};
+    ghost use Rattle.ruu_timing.specs.Shown.{RuuShown};
 
-    ghost Value = { WidthsValue };
+    ghost Value = { RuuShown };
 
-    ghost view = { λ ruu. ruu.widths };
+    ghost view = { λ ruu. record { widths = ruu.widths } };
 
     ghost invariant = { λ ruu. AreWidths ruu.widths × IsSized ruu.widths ruu.pipeline };
 }
@@ -34,7 +34,7 @@ impl Model for Ruu {
 impl Ruu {
     pub fn new(alloc: Global, widths: &Widths) -> Result<Ruu, NoMemory>
         requires { AreWidths widths.now }
-        ensures { IfOk result (λ ruu. ruu ≡ widths.now) }
+        ensures { IfOk result (λ ruu. ruu.widths ≡ widths.now) }
     {
         Ok(Ruu {
             widths: *widths,
@@ -46,8 +46,8 @@ impl Ruu {
     /// instruction before. Each instruction issues in the first cycle in which it can.
     pub fn time<T: Trace>(&mut self, trace: &T, skip: usize) -> u64
         requires { IsTrace (T.items trace.now) skip }
-        ensures cycles { result ≡ cycles self.old (T.items trace.now) skip }
-        ensures first { IssueFirst self.old (T.items trace.now) }
+        ensures cycles { result ≡ cycles self.old.widths (T.items trace.now) skip }
+        ensures first { IssueFirst self.old.widths (T.items trace.now) }
         ensures least { skip + 16 ≤ length (T.items trace.now) → 1 ≤ result }
         ensures most { length (T.items trace.now) ≤ skip + 10000 → result < 2 ^ 26 }
         ensures widths { self.new ≡ self.old }

@@ -50,7 +50,7 @@ impl<'a> OutOfOrder<'a> {
         requires longest { longest ≤ 110000 }
         ensures config { IfOk result (λ p. p.config.now ≡ config.now) }
         ensures longest { IfOk result (λ p. p.latest.capacity ≡ longest) }
-        ensures shown { IfOk result (λ p. HasMarked config.now p.ruu p.state p.latest.capacity p.latest.items []) }
+        ensures shown { IfOk result (λ p. HasMarked config.now p.ruu.widths p.state p.latest.capacity p.latest.items []) }
     {
         Ok(OutOfOrder {
             config,
@@ -66,7 +66,7 @@ impl<'a> Processor for OutOfOrder<'a> {
 
     ghost longest = { λ p. p.latest.capacity };
 
-    ghost shown = { λ p begun es. HasMarked p.config.now p.ruu p.state p.latest.capacity p.latest.items es };
+    ghost shown = { λ p begun es. HasMarked p.config.now p.ruu.widths p.state p.latest.capacity p.latest.items es };
 
     fn begin_unit(&mut self) {}
 
