@@ -80,5 +80,8 @@ fn is_sent<T: Send>(_: &T) {}
 fn may_go_to_another_thread(rt: HostRuntime) {
     let front = Front::new(3, TEST);
     is_sent(&front);
-    assert_eq!(rt; (front.total(), front.pushed(), front.is_going()), (3, 0, true));
+    assert_eq!(rt;
+        (front.total(), front.pushed(), front.is_going()),
+        (3, 0, true)
+    );
 }
