@@ -36,6 +36,16 @@ pub struct Mark {
     fill: usize,
 }
 
+impl Model for Mark {
+    ghost use Rattle.std.specs.Prelude.{ℕ};
+
+    ghost Value = { ℕ };
+
+    ghost view = { λ fields. fields.fill };
+
+    ghost inverse = { λ fill. record { fill = fill } };
+}
+
 impl Region {
     /// A region of so many words, none of them in use.
     pub fn new(alloc: Global, words: usize) -> Result<Region, NoMemory>
@@ -87,12 +97,13 @@ impl Region {
         ensures outside { (ws : List ℕ) → length ws ≡ span.now.len
             → replaced span.now.start ws self.old.words ≡ with_words_at span.now ws self.old.words }
     {
-        self.words.slice_mut(span.start()..span.start() + span.len())
+        self.words
+            .slice_mut(span.start()..span.start() + span.len())
     }
 
     /// How far the region is in use.
     pub fn mark(&self) -> Mark
-        ensures { result.fill ≡ length self.now.words }
+        ensures { result ≡ length self.now.words }
     {
         Mark {
             fill: self.words.len(),
@@ -101,8 +112,8 @@ impl Region {
 
     /// Frees all words that were taken into use after the mark was made.
     pub fn release(&mut self, mark: Mark)
-        requires { mark.fill ≤ length self.old.words }
-        ensures { self.new ≡ record self.old { words = take mark.fill self.old.words } }
+        requires { mark ≤ length self.old.words }
+        ensures { self.new ≡ record self.old { words = take mark self.old.words } }
     {
         self.words.truncate(mark.fill);
     }
