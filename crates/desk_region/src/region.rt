@@ -1,4 +1,4 @@
-ghost use Rattle.std.specs.Prelude.{◌≡◌, ℕ, ◌+◌, ◌-◌, ◌<◌, ◌≤◌, List, [], ◌++◌, length, take, replicate, if◌then◌else◌, is_some, IfOk};
+ghost use Rattle.std.specs.Prelude.{◌≡◌, ℕ, ◌+◌, ◌-◌, ◌<◌, ◌≤◌, List, [], ◌++◌, length, take, replicate, if◌then◌else◌, is_some, IfOk, IfSome};
 ghost use Rattle.std.specs.Option.{SomeIff};
 ghost use Rattle.std.specs.Borrow.{sem};
 ghost use Rattle.desk_region.specs.Span.{Stretch, IsWithin, words_at, with_words_at, replaced};
@@ -69,6 +69,10 @@ impl Region {
         ensures span { SomeIff result (length self.old.words + len ≤ self.old.size)
             (record { start = length self.old.words; len = len }) }
         ensures region { self.new ≡ (if is_some result then carved self.old len else self.old) }
+
+        // What is asked of a span to be read or written: it is so of this one, and still of all others.
+        ensures within { IfSome result (λ span. IsWithin span self.new.words) }
+        ensures still { (other : Stretch) → IsWithin other self.old.words → IsWithin other self.new.words }
     {
         if len > self.free() {
             return None;
@@ -82,7 +86,8 @@ impl Region {
     /// The words of a span.
     pub fn view(&self, span: &Span) -> &[u64]
         requires { IsWithin span.now self.now.words }
-        ensures { result.now ≡ words_at span.now self.now.words }
+        ensures value { result.now ≡ words_at span.now self.now.words }
+        ensures len { length result.now ≡ span.now.len }
     {
         let start = span.start();
         &self.words[start..start + span.len()]
