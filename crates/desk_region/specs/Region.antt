@@ -7,5 +7,5 @@ pub record RegionValue : Type 0 where
   pub size : ℕ
 
 -- with so many more words in use, which are zeros
-abbrev pub carved : RegionValue → ℕ → RegionValue
-carved region len = record region { words = region.words ++ replicate len 0 }
+abbrev pub with_zeros : RegionValue → ℕ → RegionValue
+with_zeros region len = record region { words = region.words ++ replicate len 0 }

@@ -24,6 +24,6 @@ with_words_at span new words =
     take span.start words ++ (new ++ drop (span.start + span.len) words)
 
 -- these words with others written over them from a place on, cut where they end
-abbrev pub replaced : ℕ → List ℕ → List ℕ → List ℕ
-replaced start new words =
+abbrev pub with_words_from : ℕ → List ℕ → List ℕ → List ℕ
+with_words_from start new words =
     take (length words) (take start words ++ (new ++ drop (length new) (drop start words)))

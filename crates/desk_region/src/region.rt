@@ -1,8 +1,8 @@
 ghost use Rattle.std.specs.Prelude.{◌≡◌, ℕ, ◌+◌, ◌-◌, ◌<◌, ◌≤◌, List, [], ◌++◌, length, take, replicate, if◌then◌else◌, is_some, IfOk, IfSome};
 ghost use Rattle.std.specs.Option.{SomeIff};
 ghost use Rattle.std.specs.Borrow.{sem};
-ghost use Rattle.desk_region.specs.Span.{Stretch, IsWithin, words_at, with_words_at, replaced};
-ghost use Rattle.desk_region.specs.Region.{carved};
+ghost use Rattle.desk_region.specs.Span.{Stretch, IsWithin, words_at, with_words_at, with_words_from};
+ghost use Rattle.desk_region.specs.Region.{with_zeros};
 ghost use Rattle.desk_region.specs.Lending.{LendsWords};
 
 use crate::span::Span;
@@ -68,7 +68,7 @@ impl Region {
     pub fn carve(&mut self, len: usize) -> Option<Span>
         ensures span { SomeIff result (length self.old.words + len ≤ self.old.size)
             (record { start = length self.old.words; len = len }) }
-        ensures region { self.new ≡ (if is_some result then carved self.old len else self.old) }
+        ensures region { self.new ≡ (if is_some result then with_zeros self.old len else self.old) }
 
         // What is asked of a span to be read or written: it is so of this one, and still of all others.
         ensures within { IfSome result (λ span. IsWithin span self.new.words) }
@@ -100,7 +100,7 @@ impl Region {
         ensures value { result.now ≡ words_at span.now self.old.words }
         ensures len { length result.now ≡ span.now.len }
         ensures outside { (ws : List ℕ) → length ws ≡ span.now.len
-            → replaced span.now.start ws self.old.words ≡ with_words_at span.now ws self.old.words }
+            → with_words_from span.now.start ws self.old.words ≡ with_words_at span.now ws self.old.words }
     {
         self.words
             .slice_mut(span.start()..span.start() + span.len())

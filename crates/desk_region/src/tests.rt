@@ -1,7 +1,7 @@
 use super::*;
 use std::test::Fail;
 
-/// What is left after each carving of so many words, and where the span begins that it gave.
+/// How many words are carved, where the span begins that comes of it, and how many are free then.
 const CARVINGS: [(usize, Option<usize>, usize); 5] = [
     (4, Some(0), 6),
     (7, None, 6),
