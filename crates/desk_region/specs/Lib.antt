@@ -1,0 +1,5 @@
+pub mod Span
+pub mod SpanView
+pub mod Region
+pub mod RegionView
+pub mod Lending
