@@ -1,5 +1,5 @@
 use super::*;
-use confidence::{Answer, PointFault, PointKind, Test};
+use confidence::{Answer, PointFault, PointKind, Sums, Test};
 use smarts_base::{Draws, NoMemory};
 use std::alloc::Global;
 use std::test::Fail;
@@ -33,6 +33,48 @@ fn draws_and_reports(rt: HostRuntime) -> Result<(), Fail> {
     assert_eq!(rt; state.home().map(Front::count), Some(0));
     let seat = state.seat(1);
     assert_eq!(rt; (seat.hand, seat.last, seat.past), (None, Some(1), false));
+    Ok(())
+}
+
+#[test]
+fn folds_in_order_not_by_arrival(rt: HostRuntime) -> Result<(), Fail> {
+    let answers = [Answer::Cycles(16), Answer::Cycles(16), Answer::Cycles(16)];
+    // the second seat reports two answers, and the first cell is still empty when it folds
+    let second_folds = [
+        event(0, Act::Split { into: 1 }),
+        event(0, Act::Claim),
+        event(1, Act::Claim),
+        event(1, Act::Report),
+        event(1, Act::Claim),
+        event(1, Act::Report),
+        event(1, Act::Try),
+        event(1, Act::Glance),
+        event(1, Act::Release),
+    ];
+    let mut state = core_run(rt.alloc(), &answers, TEST, 2, &second_folds)?;
+    assert_eq!(rt; state.home().map(Front::count), Some(0));
+    let first_folds = [
+        event(0, Act::Report),
+        event(0, Act::Try),
+        event(0, Act::Glance),
+        event(0, Act::Glance),
+        event(0, Act::Announce),
+        event(0, Act::Release),
+        event(1, Act::Look),
+        event(0, Act::Join { from: 1 }),
+    ];
+    state.run(&first_folds);
+    assert_eq!(rt; state.front().ending(), Ending::Stopped { count: 2 });
+    let sums = Sums {
+        n: 2,
+        s1: 32,
+        s2: 512,
+    };
+    assert_eq!(rt; state.front().sums(), sums);
+    assert_eq!(rt;
+        (state.seat(0).seen_end, state.seat(1).live),
+        (Some(2), false)
+    );
     Ok(())
 }
 
