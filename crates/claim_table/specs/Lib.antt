@@ -3,4 +3,4 @@ pub mod Steps
 pub mod Shown
 pub mod Calls
 pub mod Closing
-pub mod Crew
+pub mod Tests

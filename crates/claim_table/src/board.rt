@@ -1,5 +1,4 @@
 ghost use Rattle.std.specs.Prelude.{◌≡◌, ◌≢◌, ◌⊎◌, ◌<◌, ◌≤◌, ℕ, true, false, Some, None, length, slice_get, All, IfOk};
-ghost use Rattle.ordered_fold.specs.Machine.{later as later_of};
 ghost use Rattle.ordered_fold.specs.Batch.{IsHeldAnswer, IsBatch};
 ghost use Rattle.ordered_fold.specs.Front.{first_front};
 ghost use Rattle.confidence.specs.Confidence.{IsInRange};
@@ -237,17 +236,8 @@ impl<L: Listed> Board<L> {
             ..
         } = other;
         self.table.shared.join_seat::<Joins>(&mut pass.seat, seat);
-        pass.last = later(pass.last, last);
+        pass.last = pass.last.max(last);
         pass.past = pass.past || past;
         pass.seen_end = pass.seen_end.or(seen_end);
-    }
-}
-
-fn later(first: Option<u64>, second: Option<u64>) -> Option<u64>
-    ensures { result ≡ later_of first second }
-{
-    match (first, second) {
-        (None, last) | (last, None) => last,
-        (Some(a), Some(b)) => Some(if a < b { b } else { a }),
     }
 }

@@ -2,7 +2,7 @@ ghost use Rattle.std.specs.Prelude.{◌≡◌, ◌+◌, ◌<◌, ◌≤◌, None
 ghost use Rattle.confidence.specs.declared.answer.Answer.TheVariants.{Cycles};
 ghost use Rattle.ordered_fold.specs.Batch.{IsHeldAnswer, IsBatch};
 ghost use Rattle.claim_table.specs.Board.{list_at, IsAlone};
-ghost use Rattle.claim_table.specs.Crew.{IsOne};
+ghost use Rattle.claim_table.specs.Tests.Crew.{IsOne};
 ghost use Rattle.claim_table.specs.Shown.{IsPassOf};
 
 use super::*;

@@ -9,7 +9,7 @@ ghost use Rattle.ordered_fold.specs.Invariant.{IsCore};
 ghost use Rattle.ordered_fold.specs.declared.ending.Ending.{Ending as EndingValue};
 ghost use Rattle.ordered_fold.specs.MachineView.{core_of};
 ghost use Rattle.ordered_fold.specs.Cell.{answer_of as answer_of_code};
-ghost use Rattle.ordered_fold.specs.Machine.{seat_at, cell_at, core_start, core_step, is_idle as is_idle_seat, can_claim as can_claim_seat, can_report as can_report_seat, can_look as can_look_seat, drawing as drawing_seat, later as later_of, code_or_zero as code_or_zero_of, can_glance as can_glance_seat, can_announce as can_announce_seat, can_split as can_split_seat, can_join as can_join_seat, after_claim, reported, after_try, after_glance, after_announce, after_release, after_look, after_split, after_join};
+ghost use Rattle.ordered_fold.specs.Machine.{seat_at, cell_at, core_start, core_step, is_idle as is_idle_seat, can_claim as can_claim_seat, can_report as can_report_seat, can_look as can_look_seat, drawing as drawing_seat, code_or_zero as code_or_zero_of, can_glance as can_glance_seat, can_announce as can_announce_seat, can_split as can_split_seat, can_join as can_join_seat, after_claim, reported, after_try, after_glance, after_announce, after_release, after_look, after_split, after_join};
 
 use crate::{Act, CoreEvent, Front, Seat, answer_of, code};
 use confidence::Answer;
@@ -76,15 +76,6 @@ fn drawing(size: u32, number: u64, seat: Seat) -> Seat
             past: true,
             ..seat
         }
-    }
-}
-
-fn later(first: Option<u64>, second: Option<u64>) -> Option<u64>
-    ensures { result ≡ later_of first second }
-{
-    match (first, second) {
-        (None, last) | (last, None) => last,
-        (Some(a), Some(b)) => Some(if a < b { b } else { a }),
     }
 }
 
@@ -280,7 +271,7 @@ impl Machine {
     {
         let other = self.seat(from);
         let joined = Seat {
-            last: later(seat.last, other.last),
+            last: seat.last.max(other.last),
             past: seat.past || other.past,
             seen_end: seat.seen_end.or(other.seen_end),
             ..seat

@@ -1,7 +1,7 @@
 use Rattle.std.proofs.Common.{◌≡◌, ◌+◌, ◌≤◌, None, length}
 use Rattle.std.specs.List.{All}
 use Rattle.claim_table.specs.Shown.{IsPassOf}
-use Rattle.claim_table.specs.Crew.{IsOne}
+use Rattle.claim_table.specs.Tests.Crew.{IsOne}
 use Rattle.claim_table.proofs.tests.crew_of.Given as goal
 
 abbrev pub invariant-loop-pass : goal.invariant-loop-pass

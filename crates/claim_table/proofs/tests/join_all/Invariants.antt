@@ -1,7 +1,7 @@
 use Rattle.std.proofs.Common.{◌≡◌, ◌+◌, None, length}
 use Rattle.std.specs.List.{All}
 use Rattle.claim_table.specs.Shown.{IsPassOf}
-use Rattle.claim_table.specs.Crew.{IsOne}
+use Rattle.claim_table.specs.Tests.Crew.{IsOne}
 use Rattle.claim_table.proofs.tests.join_all.Given as goal
 
 abbrev pub invariant-loop-crew : goal.invariant-loop-crew

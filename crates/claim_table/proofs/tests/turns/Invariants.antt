@@ -1,4 +1,4 @@
-use Rattle.claim_table.specs.Crew.{IsOne}
+use Rattle.claim_table.specs.Tests.Crew.{IsOne}
 use Rattle.claim_table.proofs.tests.turns.Given as goal
 
 abbrev pub invariant-loop-turn : goal.invariant-loop-turn

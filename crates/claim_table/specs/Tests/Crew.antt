@@ -1,4 +1,4 @@
--- A pass that was split off another and hasn't been split or joined, between two turns. Tests alone cite it.
+-- A pass that was split off another and hasn't been split or joined, between two turns.
 use Rattle.std.specs.Prelude.{◌≡◌, None}
 use Rattle.claim_table.specs.Shown.{BoardShown, PassShown, IsPassOf}
 

@@ -1,0 +1,2 @@
+-- Definitions that only the tests cite.
+pub mod Crew
