@@ -35,3 +35,19 @@ impl<E> From<NoMemory> for Refusal<E> {
         Refusal::NoMemory
     }
 }
+
+impl<E> From<AllocError> for Refusal<E> {
+    ghost from_gives = { λ _ refusal. refusal ≡ NoMemory };
+
+    fn from(_error: AllocError) -> Refusal<E> {
+        Refusal::NoMemory
+    }
+}
+
+impl<E, T: Drop> From<AllocFailed<T>> for Refusal<E> {
+    ghost from_gives = { λ _ refusal. refusal ≡ NoMemory };
+
+    fn from(_failed: AllocFailed<T>) -> Refusal<E> {
+        Refusal::NoMemory
+    }
+}
