@@ -13,7 +13,7 @@ use Rattle.claim_table.specs.declared.rule.View.{View}
 use Rattle.claim_table.specs.declared.rule.Key.{Key}
 use Rattle.claim_table.specs.Board.{IsBoard}
 use Rattle.claim_table.proofs.HolderLemmas.{glances}
-use Rattle.claim_table.specs.Steps.{Holding, answers_of, front_at, note, holding_view, glanced_view, Tried, Glanced}
+use Rattle.claim_table.specs.Steps.{Holding, answers_of, front_at, note, glanced_view, Tried, Glanced}
 use Rattle.claim_table.specs.Calls.{HasFront, IsAtRest}
 
 -- a number that isn't odd

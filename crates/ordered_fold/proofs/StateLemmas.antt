@@ -1,7 +1,6 @@
 -- A machine with its answers, before any event and after each.
-use Rattle.std.proofs.Common.{◌≡◌, ◌≢◌, ◌-◌, ◌%◌, ◌^◌, ◌<◌, ◌≤◌, ◌==◌, ◌⊎◌, inl, inr, ℕ, Bool, true, false, if◌then◌else◌, Option, Some, None, List, length, replicate, set, fold, refl, arith, ◌∙◌, length-set}
+use Rattle.std.proofs.Common.{◌≡◌, ◌-◌, ◌%◌, ◌^◌, ◌<◌, ◌≤◌, ◌==◌, ℕ, Bool, true, false, if◌then◌else◌, Option, Some, None, List, length, replicate, set, fold, refl, arith, ◌∙◌, length-set}
 use Rattle.std.proofs.lemmas.List.{length-replicate}
-use Rattle.std.proofs.lemmas.Bool.{cases_Bool}
 use Rattle.std.specs.List.{All}
 use Rattle.confidence.specs.Confidence.{IsInRange}
 use Rattle.confidence.proofs.Lists.{sums_of-nothing, bounded-nothing}
@@ -17,7 +16,6 @@ use Rattle.ordered_fold.specs.Machine.{Core, unmade, seat_at, cell_at, core_star
 use Rattle.ordered_fold.specs.Invariant.{IsCore}
 use Rattle.ordered_fold.specs.Front.{first_front, IsSound}
 use Rattle.ordered_fold.specs.CoreRun.{IsRun}
-use Rattle.ordered_fold.proofs.Fronts.{not_both}
 use Rattle.ordered_fold.proofs.RoomLemmas.{has_room}
 use Rattle.ordered_fold.proofs.RunLemmas.{start_is_core, step_keeps, steps_keep}
 

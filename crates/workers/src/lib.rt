@@ -1,0 +1,10 @@
+//! Workers: each goes to the board for a number, answers the point of that number, reports and folds,
+//! until the fold has ended or no number is left. A crew of them makes one fold of a list of points,
+//! the same at any number of workers.
+#![tactic(auto)]
+
+mod simulator;
+mod worker;
+
+pub use simulator::Simulator;
+pub use worker::work;
