@@ -1,1 +1,2 @@
 pub mod WorkerLemmas
+pub mod CrewLemmas

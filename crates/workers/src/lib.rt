@@ -3,6 +3,7 @@
 //! the same at any number of workers.
 #![tactic(auto)]
 
+mod member;
 mod simulator;
 mod worker;
 
