@@ -1,9 +1,15 @@
 -- Sums over the members of a crew.
-use Rattle.std.proofs.Common.{◌≡◌, ◌+◌, ◌<◌, ℕ, zero, suc, List, [], ◌∷◌, ◌++◌, length, refl, arith, ap, ◌∙◌}
-use Rattle.std.specs.List.{sum_by, slice_index_or}
+use Rattle.std.proofs.Common.{◌≡◌, ◌+◌, ◌<◌, ℕ, zero, suc, List, [], ◌∷◌, ◌++◌, length, refl, arith, ap, subst, ◌∙◌, ◌≢◌, Option, Some, None, inl, inr}
+use Rattle.std.specs.List.{All, sum_by, slice_index_or}
+use Rattle.std.specs.Prelude.{IfSome}
+use Rattle.std.specs.Option.{option_or, option_to_list}
+use Rattle.std.proofs.lemmas.List.{length-append}
+use Rattle.std.proofs.lemmas.List.Elements.{All-pop}
 use Rattle.std.proofs.lemmas.List.Sums.{sum_by-cons, sum_by_push}
 use Rattle.claim_table.specs.Shown.{BoardShown, PassShown, IsPassOf}
-use Rattle.claim_table.specs.Steps.{child_view}
+use Rattle.claim_table.specs.Steps.{child_view, joined_view}
+use Rattle.claim_table.specs.declared.rule.View.{View}
+use Rattle.workers.specs.Worker.{IsOver}
 use Rattle.workers.specs.Crew.{IsFresh}
 
 -- lists that agree place by place in what is summed
@@ -39,3 +45,48 @@ fresh_child board parent child fresh own is = record {
   };
   points = ap (λ v. v.points) is;
 }
+
+-- what was popped off the end
+pub all_popped :
+    {A : Type 0} (P : A → Type 0) (xs ys : List A) (popped : Option A) (x : A)
+    → xs ≡ ys ++ option_to_list popped → popped ≡ Some x → All P xs → All P ys × P x
+all_popped P xs ys popped x is found all =
+    let cut = All-pop P xs ys popped is all in
+    (cut.0, subst (λ r. IfSome r P) found cut.1)
+
+pub sum_popped :
+    {A : Type 0} (f : A → ℕ) (xs ys : List A) (popped : Option A) (x : A)
+    → xs ≡ ys ++ option_to_list popped → popped ≡ Some x → sum_by f xs ≡ sum_by f ys + f x
+sum_popped f xs ys popped x is found =
+    sum_pushed f ys xs x (is ∙ ap (λ r. ys ++ option_to_list r) found)
+
+-- a pass that takes over what another knows is over where it was, or where the other was
+pub over_joined : (view other : View) → IsOver view → IsOver (joined_view view other)
+over_joined view other (inl past) = inl (rw past refl)
+over_joined view other (inr seen) = inr (by_end view.seat.seen_end seen)
+  where
+    by_end : (o : Option ℕ) → o ≢ None → option_or o other.seat.seen_end ≢ None
+    by_end None some = absurd (some refl)
+    by_end (Some n) some = some
+
+pub all_of_none : {A : Type 0} (P : A → Type 0) (xs : List A) → length xs ≡ 0 → All P xs
+all_of_none P xs none k d within = absurd (omega (arith, none, within))
+
+pub longer :
+    {A : Type 0} (xs ys : List A) (popped : Option A) (x : A) → xs ≡ ys ++ option_to_list popped → popped ≡ Some x
+    → length xs ≡ length ys + 1
+longer xs ys popped x is found =
+    ap length (is ∙ ap (λ r. ys ++ option_to_list r) found) ∙ length-append ys (x ∷ [])
+
+-- what the only member sums to
+pub only_share :
+    {A : Type 0} (xs ys : List A) (popped : Option A) (x : A) (f : A → ℕ) → xs ≡ ys ++ option_to_list popped
+    → popped ≡ Some x → length xs ≡ 1 → sum_by f xs ≡ 65 → f x ≡ 65
+only_share xs ys popped x f is found one all =
+    let long = longer xs ys popped x is found in
+    let none : sum_by f ys ≡ 0 = no_sum f ys (omega (arith, long, one)) in
+    omega (arith, sum_popped f xs ys popped x is found, none, all)
+  where
+    no_sum : {A : Type 0} (f : A → ℕ) (ys : List A) → length ys ≡ 0 → sum_by f ys ≡ 0
+    no_sum f [] none = refl
+    no_sum f (y ∷ ys) none = absurd (omega (arith, none))

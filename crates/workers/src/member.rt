@@ -3,6 +3,7 @@
 ghost use Rattle.std.specs.Prelude.{◌≡◌, ◌+◌, ◌*◌, ◌<◌, ◌≤◌, None, length, map, All, IfOk, OnErr};
 ghost use Rattle.std.specs.List.{sum_by};
 ghost use Rattle.std.specs.Vec.{vec_capacity};
+ghost use Rattle.ordered_fold.specs.Batch.{fold_from, folded_number};
 ghost use Rattle.claim_table.specs.Board.{list_at, IsAlone};
 ghost use Rattle.claim_table.specs.Shown.{IsPassOf};
 ghost use Rattle.workers.specs.Worker.{IsNew, IsOver};
@@ -109,4 +110,45 @@ where
             );
         },
     );
+}
+
+/// One pass of all that they are, and how many points they answered in all. The simulators go back into
+/// their list, which kept its room.
+pub(crate) fn join_members<L: Listed, S: Simulator>(
+    board: &Board<L>,
+    members: Vec<Member<L, S>>,
+    simulators: &mut Vec<S>,
+) -> (Pass<L>, u32)
+    requires workers { (0 < length members.items) × (length members.items ≤ 64) }
+    requires spent { All (λ m. IsSpent board.now (list_at L.lists board.now.which) m.pass m.answered) members.items }
+    requires shares { sum_by (λ m. share m.pass.view) members.items ≡ 65 }
+    requires most { length (list_at L.lists board.now.which) ≤ 65536 }
+    requires room { (length simulators.old.items ≡ 0) × (length members.items ≤ vec_capacity simulators.old) }
+    ensures own { IsPassOf board.now result.0 }
+    ensures hand { result.0.view.seat.hand ≡ None }
+    ensures over { IsOver result.0.view }
+    ensures all { IsAlone result.0.view }
+    ensures points { result.0.view.points ≡ result.1 }
+    ensures alone { length members.items ≡ 1
+        → result.1 ≡ folded_number board.now.start (fold_from board.now.start (list_at L.lists board.now.which) (length (list_at L.lists board.now.which))) }
+    ensures long { length simulators.new.items ≡ length members.items }
+    ensures alike { (u : S.Setup) → All (λ m. S.setup m.simulator ≡ u) members.items → Alike S.setup u simulators.new.items }
+{
+    let mut members = members;
+    let Some(Member {
+        pass,
+        simulator,
+        answered,
+    }) = members.pop()
+    else {
+        unreachable!();
+    };
+    let (mut first, mut total) = (pass, answered);
+    simulators.push_reserved(simulator);
+    while let Some(member) = members.pop() {
+        board.join(&mut first, member.pass);
+        total += member.answered;
+        simulators.push_reserved(member.simulator);
+    }
+    (first, total)
 }

@@ -1,8 +1,7 @@
-use Rattle.std.proofs.Common.{rules, ◌≡◌, arith, ap, subst}
-use Rattle.std.proofs.lemmas.List.Elements.{All-same, All-push, All-pop}
-use Rattle.std.specs.Prelude.{IfSome}
+use Rattle.std.proofs.Common.{rules, ◌≡◌, arith, ap}
+use Rattle.std.proofs.lemmas.List.Elements.{All-same, All-push}
 use Rattle.workers.specs.Crew.{IsFresh, share}
-use Rattle.workers.proofs.CrewLemmas.{sum_pushed, fresh_child}
+use Rattle.workers.proofs.CrewLemmas.{sum_pushed, all_popped, fresh_child}
 use Rattle.workers.proofs.member.members_of.Goals as goal
 
 pub loop-simulator-preserved : goal.loop-simulator-preserved
@@ -22,10 +21,9 @@ loop-simulator-preserved g c = record {
   room = search rules;
   alike = λ u all.
       let was = c.loop-simulator.invariant.alike u all in
-      let popped = All-pop (λ s. g.S.Simulator.setup s ≡ u) _ _ _ c.pop-in-loop-simulator.ensures.items was.1 in
+      let popped = all_popped (λ s. g.S.Simulator.setup s ≡ u) _ _ _ _ c.pop-in-loop-simulator.ensures.items c.in-Some-pop.is was.1 in
       (was.0, popped.0, All-same (λ m. g.S.Simulator.setup m.simulator ≡ u) _ _ c.push_reserved.ensures.items
-      (All-push (λ m. g.S.Simulator.setup m.simulator ≡ u) _ _ was.2
-      (subst (λ r. IfSome r (λ s. g.S.Simulator.setup s ≡ u)) c.in-Some-pop.is popped.1)));
+      (All-push (λ m. g.S.Simulator.setup m.simulator ≡ u) _ _ was.2 popped.1));
 }
 
 pub returns-clause-fresh : goal.returns-clause-fresh
