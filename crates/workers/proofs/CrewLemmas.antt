@@ -1,16 +1,22 @@
 -- Sums over the members of a crew.
-use Rattle.std.proofs.Common.{◌≡◌, ◌+◌, ◌<◌, ℕ, zero, suc, List, [], ◌∷◌, ◌++◌, length, refl, arith, ap, subst, ◌∙◌, ◌≢◌, Option, Some, None, inl, inr}
+use Rattle.std.proofs.Common.{◌≡◌, ◌+◌, ◌<◌, ℕ, zero, suc, List, [], ◌∷◌, ◌++◌, length, take, drop, ◌<◌, ◌≤◌, refl, arith, sym, ap, subst, ◌∙◌, ◌≢◌, Option, Some, None, inl, inr}
 use Rattle.std.specs.List.{All, sum_by, slice_index_or}
 use Rattle.std.specs.Prelude.{IfSome}
 use Rattle.std.specs.Option.{option_or, option_to_list}
-use Rattle.std.proofs.lemmas.List.{length-append}
+use Rattle.std.proofs.lemmas.List.{length-append, take-append-le}
+use Rattle.std.proofs.Math.Seq.{take-length}
 use Rattle.std.proofs.lemmas.List.Elements.{All-pop}
 use Rattle.std.proofs.lemmas.List.Sums.{sum_by-cons, sum_by_push}
+use Rattle.confidence.specs.declared.answer.Answer.{Answer}
+use Rattle.ordered_fold.specs.declared.front.Front.{Front}
+use Rattle.ordered_fold.specs.Front.{IsSound}
+use Rattle.ordered_fold.specs.Batch.{fold_from, folded_number}
+use Rattle.claim_table.specs.Board.{list_at}
 use Rattle.claim_table.specs.Shown.{BoardShown, PassShown, IsPassOf}
 use Rattle.claim_table.specs.Steps.{child_view, joined_view}
 use Rattle.claim_table.specs.declared.rule.View.{View}
 use Rattle.workers.specs.Worker.{IsOver}
-use Rattle.workers.specs.Crew.{IsFresh}
+use Rattle.workers.specs.Crew.{IsFresh, IsBatchRun}
 
 -- lists that agree place by place in what is summed
 pub sums_alike :
@@ -90,3 +96,46 @@ only_share xs ys popped x f is found one all =
     no_sum : {A : Type 0} (f : A → ℕ) (ys : List A) → length ys ≡ 0 → sum_by f ys ≡ 0
     no_sum f [] none = refl
     no_sum f (y ∷ ys) none = absurd (omega (arith, none))
+
+-- what holds of the one setup holds of each simulator's
+pub each_alike :
+    {M U : Type 0} (P : U → Type 0) (setup : M → U) (u : U) (members : List M)
+    → All (λ m. setup m ≡ u) members → P u → All (λ m. P (setup m)) members
+each_alike P setup u members alike is k d within = subst P (sym (alike k d within)) is
+
+-- the slice that a whole list was lent as is the list again
+pub whole_slice :
+    {A : Type 0} (new items : List A) (n : ℕ) → length new ≡ length items → length items ≡ n
+    → take n (new ++ drop (length new) items) ≡ new
+whole_slice new items n long is =
+    ap (λ m. take m (new ++ drop (length new) items)) (sym (long ∙ is))
+    ∙ take-append-le (length new) new (drop (length new) items) (omega arith) ∙ take-length new
+
+pub first_list :
+    (lists : List (List Answer)) (answers : List Answer) (which : ℕ) → lists ≡ answers ∷ [] → which ≡ 0
+    → list_at lists which ≡ answers
+first_list lists answers which is first = ap (list_at lists) first ∙ ap (λ l. list_at l 0) is
+
+-- what the one pass that is left makes of the board
+pub batch_run :
+    (lists : List (List Answer)) (answers : List Answer) (board : BoardShown) (start new : Front)
+    (workers windows points : ℕ) → lists ≡ answers ∷ [] → board.which ≡ 0 → board.start ≡ start
+    → board.size ≡ length (list_at lists board.which)
+    → new ≡ fold_from board.start (list_at lists board.which) board.size → IsSound new
+    → (folded_number board.start new ≤ points) × (points ≤ board.size) → points ≡ windows
+    → (workers ≡ 1 → windows ≡ folded_number board.start (fold_from board.start (list_at lists board.which) (length (list_at lists board.which))))
+    → IsBatchRun answers workers start new windows
+batch_run lists answers board start new workers windows points is first same size fold sound bounds number alone =
+    subst (λ s. IsBatchRun answers workers s new windows) same (subst (λ l. IsBatchRun l workers board.start new windows) list (record {
+      front = whole;
+      sound = sound;
+      least = omega (arith, bounds.0, number);
+      most = omega (arith, bounds.1, number, size);
+      alone = λ one. alone one ∙ ap (folded_number board.start) (sym whole);
+    }))
+  where
+    list : list_at lists board.which ≡ answers
+    list = first_list lists answers board.which is first
+
+    whole : new ≡ fold_from board.start (list_at lists board.which) (length (list_at lists board.which))
+    whole = fold ∙ ap (fold_from board.start (list_at lists board.which)) size

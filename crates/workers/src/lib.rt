@@ -3,9 +3,11 @@
 //! the same at any number of workers.
 #![tactic(auto)]
 
+mod crew;
 mod member;
 mod simulator;
 mod worker;
 
+pub use crew::Crew;
 pub use simulator::Simulator;
 pub use worker::work;
