@@ -106,7 +106,7 @@ pushed-test : (front : Front) (a : Answer) → (pushed front a).test ≡ front.t
 pushed-test front (Cycles c) = refl
 pushed-test front (Fault f) = refl
 
-folded-total : (front : Front) (a : Answer) → (folded front a).total ≡ front.total
+pub folded-total : (front : Front) (a : Answer) → (folded front a).total ≡ front.total
 folded-total front a = either (is_going front.ending)
   where
     either : (b : Bool) → ◌≡◌ {A = ℕ} (if b then pushed front a else front).total front.total

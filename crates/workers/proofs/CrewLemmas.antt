@@ -1,5 +1,5 @@
 -- Sums over the members of a crew.
-use Rattle.std.proofs.Common.{◌≡◌, ◌+◌, ◌<◌, ℕ, zero, suc, List, [], ◌∷◌, ◌++◌, length, take, drop, ◌<◌, ◌≤◌, refl, arith, sym, ap, subst, ◌∙◌, ◌≢◌, Option, Some, None, inl, inr}
+use Rattle.std.proofs.Common.{◌≡◌, ◌+◌, ◌<◌, ℕ, zero, suc, List, [], ◌∷◌, ◌++◌, length, take, drop, map, fold, ◌<◌, ◌≤◌, refl, arith, sym, ap, subst, ◌∙◌, ◌≢◌, Option, Some, None, inl, inr}
 use Rattle.std.specs.List.{All, sum_by, slice_index_or}
 use Rattle.std.specs.Prelude.{IfSome}
 use Rattle.std.specs.Option.{option_or, option_to_list}
@@ -9,14 +9,17 @@ use Rattle.std.proofs.lemmas.List.Elements.{All-pop}
 use Rattle.std.proofs.lemmas.List.Sums.{sum_by-cons, sum_by_push}
 use Rattle.confidence.specs.declared.answer.Answer.{Answer}
 use Rattle.ordered_fold.specs.declared.front.Front.{Front}
-use Rattle.ordered_fold.specs.Front.{IsSound}
-use Rattle.ordered_fold.specs.Batch.{fold_from, folded_number}
+use Rattle.ordered_fold.specs.Front.{IsSound, folded}
+use Rattle.ordered_fold.specs.declared.ending.Ending.TheVariants.{Going}
+use Rattle.ordered_fold.specs.Batch.{fold_from, pushed_number, uncounted, folded_number, IsBatch}
+use Rattle.ordered_fold.proofs.Folds.{folded-total}
+use Rattle.ordered_fold.proofs.BatchLemmas.{prefix_of}
 use Rattle.claim_table.specs.Board.{list_at}
 use Rattle.claim_table.specs.Shown.{BoardShown, PassShown, IsPassOf}
 use Rattle.claim_table.specs.Steps.{child_view, joined_view}
 use Rattle.claim_table.specs.declared.rule.View.{View}
 use Rattle.workers.specs.Worker.{IsOver}
-use Rattle.workers.specs.Crew.{IsFresh, IsBatchRun}
+use Rattle.workers.specs.Crew.{Alike, IsCrew, IsFresh, IsBatchRun}
 
 -- lists that agree place by place in what is summed
 pub sums_alike :
@@ -116,19 +119,33 @@ pub first_list :
     → list_at lists which ≡ answers
 first_list lists answers which is first = ap (list_at lists) first ∙ ap (λ l. list_at l 0) is
 
+fold-total : (start : Front) (answers : List Answer) → (fold folded start answers).total ≡ start.total
+fold-total start [] = refl
+fold-total start (a ∷ answers) = fold-total (folded start a) answers ∙ folded-total start a
+
+fold_from-total : (start : Front) (answers : List Answer) (m : ℕ) → (fold_from start answers m).total ≡ start.total
+unfolding fold_from
+fold_from-total start answers m = fold-total start (take m answers)
+
 -- what the one pass that is left makes of the board
 pub batch_run :
     (lists : List (List Answer)) (answers : List Answer) (board : BoardShown) (start new : Front)
     (workers windows points : ℕ) → lists ≡ answers ∷ [] → board.which ≡ 0 → board.start ≡ start
-    → board.size ≡ length (list_at lists board.which)
+    → board.size ≡ length (list_at lists board.which) → IsBatch board.start (list_at lists board.which)
     → new ≡ fold_from board.start (list_at lists board.which) board.size → IsSound new
     → (folded_number board.start new ≤ points) × (points ≤ board.size) → points ≡ windows
     → (workers ≡ 1 → windows ≡ folded_number board.start (fold_from board.start (list_at lists board.which) (length (list_at lists board.which))))
     → IsBatchRun answers workers start new windows
-batch_run lists answers board start new workers windows points is first same size fold sound bounds number alone =
+batch_run lists answers board start new workers windows points is first same size batch fold sound bounds number alone =
     subst (λ s. IsBatchRun answers workers s new windows) same (subst (λ l. IsBatchRun l workers board.start new windows) list (record {
       front = whole;
       sound = sound;
+      total = ap (λ f. f.total) whole ∙ fold_from-total board.start (list_at lists board.which) (length (list_at lists board.which));
+      going = λ e.
+          let was = subst (λ f. f.ending ≡ Going) whole e in
+          let pushed = (prefix_of board.start (list_at lists board.which) (length (list_at lists board.which)) batch (omega arith)).going was in
+          let none : uncounted new.ending ≡ 0 = ap uncounted e in
+          omega (arith, pushed, ap pushed_number whole, none);
       least = omega (arith, bounds.0, number);
       most = omega (arith, bounds.1, number, size);
       alone = λ one. alone one ∙ ap (folded_number board.start) (sym whole);
@@ -139,3 +156,30 @@ batch_run lists answers board start new workers windows points is first same siz
 
     whole : new ≡ fold_from board.start (list_at lists board.which) (length (list_at lists board.which))
     whole = fold ∙ ap (fold_from board.start (list_at lists board.which)) size
+
+-- the answers of a batch, as the first simulator gives them
+abbrev pub lists_of :
+    {S U P : Type 0} → (S → U) → (U → P → Answer) → List S → List P → List (List Answer)
+lists_of setup answer [] points = []
+lists_of setup answer (simulator ∷ simulators) points = map (answer (setup simulator)) points ∷ []
+
+pub lists_are :
+    {S U P : Type 0} (setup : S → U) (answer : U → P → Answer) (u : U) (simulators : List S) (points : List P)
+    → 0 < length simulators → Alike setup u simulators
+    → lists_of setup answer simulators points ≡ map (answer u) points ∷ []
+lists_are setup answer u [] points some alike = absurd (omega (arith, some))
+lists_are setup answer u (simulator ∷ simulators) points some alike =
+    ap (λ v. map (answer v) points ∷ []) (alike 0 simulator (omega arith))
+
+-- a batch leaves a crew a crew
+pub crew_after :
+    (answers : List Answer) (old new : Front) (before windows workers : ℕ) → IsCrew old before workers
+    → old.ending ≡ Going → old.sums.n + length answers ≤ old.total
+    → IsBatchRun answers workers old new windows → IsCrew new (before + windows) workers
+crew_after answers old new before windows workers crew going room run = record {
+  sound = run.sound;
+  some = crew.some;
+  most = crew.most;
+  within = omega (arith, run.total, crew.going going, run.most, room);
+  going = λ e. omega (arith, run.going e, crew.going going, run.most);
+}

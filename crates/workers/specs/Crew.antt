@@ -26,6 +26,8 @@ pub record IsCrew (front : Front) (windows : ℕ) (workers : ℕ) : Type 0 where
 pub record IsBatchRun (answers : List Answer) (workers : ℕ) (old : Front) (new : Front) (windows : ℕ) : Type 0 where
   pub front : new ≡ fold_from old answers (length answers)
   pub sound : IsSound new
+  pub total : new.total ≡ old.total
+  pub going : new.ending ≡ Going → new.sums.n ≡ old.sums.n + length answers
   pub least : folded_number old new ≤ windows
   pub most : windows ≤ length answers
   pub alone : workers ≡ 1 → windows ≡ folded_number old new

@@ -1,6 +1,7 @@
 use Rattle.std.proofs.Common.{◌≡◌, length, map, sym, ap, subst, ◌∙◌}
 use Rattle.std.specs.List.{All}
 use Rattle.std.proofs.lemmas.List.Elements.{All-same}
+use Rattle.ordered_fold.specs.Batch.{IsBatch}
 use Rattle.claim_table.specs.Board.{list_at}
 use Rattle.claim_table.specs.Shown.{BoardShown}
 use Rattle.workers.specs.Crew.{IsSpent}
@@ -34,6 +35,7 @@ returns-clause-run g c = λ answers is.
     batch_run g.L.Listed.lists answers c.in_ok-board.board c.args.start c.close.result (length c.args.simulators.now.items)
     c.join_members-pass.result.1 c.join_members-pass.result.0.view.points is c.in_ok-board.ensures.board.0 c.in_ok-board.ensures.board.2
     (subst (λ (b : BoardShown). b.size ≡ length (list_at g.L.Listed.lists b.which)) c.board.view_is c.board.invariant.size)
+    (subst (λ (b : BoardShown). IsBatch b.start (list_at g.L.Listed.lists b.which)) c.board.view_is c.board.invariant.batch)
     c.close.ensures.front c.close.ensures.sound c.close.ensures.points c.join_members-pass.ensures.points
     (λ one. c.join_members-pass.ensures.alone
     (ap length (whole_slice c.run_members.new.members c.in_ok-members.members.items c.in_ok-members.members.len
