@@ -1,5 +1,5 @@
 -- Sums over the members of a crew.
-use Rattle.std.proofs.Common.{◌≡◌, ◌+◌, ◌<◌, ℕ, zero, suc, List, [], ◌∷◌, ◌++◌, length, take, drop, map, fold, ◌<◌, ◌≤◌, refl, arith, sym, ap, subst, ◌∙◌, ◌≢◌, Option, Some, None, inl, inr}
+use Rattle.std.proofs.Common.{◌≡◌, ◌+◌, ◌<◌, ℕ, zero, suc, List, [], ◌∷◌, ◌++◌, length, take, drop, map, fold, get_or, ◌-◌, true, false, ◌⊎◌, ◌<◌, ◌≤◌, refl, arith, sym, ap, subst, ◌∙◌, ◌≢◌, Option, Some, None, inl, inr}
 use Rattle.std.specs.List.{All, sum_by, slice_index_or}
 use Rattle.std.specs.Prelude.{IfSome}
 use Rattle.std.specs.Option.{option_or, option_to_list}
@@ -8,12 +8,15 @@ use Rattle.std.proofs.Math.Seq.{take-length}
 use Rattle.std.proofs.lemmas.List.Elements.{All-pop}
 use Rattle.std.proofs.lemmas.List.Sums.{sum_by-cons, sum_by_push}
 use Rattle.confidence.specs.declared.answer.Answer.{Answer}
+use Rattle.confidence.specs.declared.answer.Answer.TheVariants.{Cycles}
+use Rattle.std.proofs.lemmas.Bool.{cases_Bool}
 use Rattle.ordered_fold.specs.declared.front.Front.{Front}
-use Rattle.ordered_fold.specs.Front.{IsSound, folded}
+use Rattle.ordered_fold.specs.Front.{IsSound, is_going, pushed, folded}
 use Rattle.ordered_fold.specs.declared.ending.Ending.TheVariants.{Going}
 use Rattle.ordered_fold.specs.Batch.{fold_from, pushed_number, uncounted, folded_number, IsBatch}
 use Rattle.ordered_fold.proofs.Folds.{folded-total}
-use Rattle.ordered_fold.proofs.BatchLemmas.{prefix_of}
+use Rattle.ordered_fold.proofs.Fronts.{not_both}
+use Rattle.ordered_fold.proofs.BatchLemmas.{going_of, fold_from-more, fold_from-over, pushed_number-pushed, prefix_of}
 use Rattle.claim_table.specs.Board.{list_at}
 use Rattle.claim_table.specs.Shown.{BoardShown, PassShown, IsPassOf}
 use Rattle.claim_table.specs.Steps.{child_view, joined_view}
@@ -127,6 +130,37 @@ fold_from-total : (start : Front) (answers : List Answer) (m : ℕ) → (fold_fr
 unfolding fold_from
 fold_from-total start answers m = fold-total start (take m answers)
 
+pub fold_from-none : (start : Front) (answers : List Answer) → fold_from start answers zero ≡ start
+unfolding fold_from
+fold_from-none start answers = refl
+
+-- a batch takes in one answer at least
+takes_some :
+    (start : Front) (answers : List Answer) (m : ℕ) → IsBatch start answers → m < length answers
+    → start.sums.n < pushed_number (fold_from start answers (suc m))
+takes_some start answers m batch below = by_end m below (cases_Bool (is_going (fold_from start answers m).ending))
+  where
+    first : (fold_from start answers zero).ending ≡ Going
+    first = ap (λ f. f.ending) (fold_from-none start answers) ∙ batch.going
+
+    by_end :
+        (m : ℕ) → m < length answers
+        → (is_going (fold_from start answers m).ending ≡ true) ⊎ (is_going (fold_from start answers m).ending ≡ false)
+        → start.sums.n < pushed_number (fold_from start answers (suc m))
+    by_end m below (inl goes) =
+        let before : Front = fold_from start answers m in
+        let going = going_of before.ending goes in
+        let number = (prefix_of start answers m batch (omega (arith, below))).going going in
+        let next : folded before (get_or answers m (Cycles 0)) ≡ pushed before (get_or answers m (Cycles 0)) = rw goes refl in
+        let more = ap pushed_number (fold_from-more start answers m below ∙ next) ∙ pushed_number-pushed before (get_or answers m (Cycles 0)) going in
+        omega (arith, number, more)
+    by_end zero below (inr over) = absurd (not_both true refl (sym (ap is_going first) ∙ over))
+    by_end (suc m) below (inr over) =
+        let same : fold_from start answers (suc m + 1) ≡ fold_from start answers (suc m) = fold_from-over start answers (suc m) 1 over in
+        let one : suc m + 1 ≡ suc (suc m) = omega arith in
+        let before = by_end m (omega (arith, below)) (cases_Bool (is_going (fold_from start answers m).ending)) in
+        subst (λ n. start.sums.n < n) (ap pushed_number (sym same) ∙ ap (λ k. pushed_number (fold_from start answers k)) one) before
+
 -- what the one pass that is left makes of the board
 pub batch_run :
     (lists : List (List Answer)) (answers : List Answer) (board : BoardShown) (start new : Front)
@@ -146,6 +180,7 @@ batch_run lists answers board start new workers windows points is first same siz
           let pushed = (prefix_of board.start (list_at lists board.which) (length (list_at lists board.which)) batch (omega arith)).going was in
           let none : uncounted new.ending ≡ 0 = ap uncounted e in
           omega (arith, pushed, ap pushed_number whole, none);
+      some = some_taken;
       least = omega (arith, bounds.0, number);
       most = omega (arith, bounds.1, number, size);
       alone = λ one. alone one ∙ ap (folded_number board.start) (sym whole);
@@ -156,6 +191,14 @@ batch_run lists answers board start new workers windows points is first same siz
 
     whole : new ≡ fold_from board.start (list_at lists board.which) (length (list_at lists board.which))
     whole = fold ∙ ap (fold_from board.start (list_at lists board.which)) size
+
+    one_more : suc (length (list_at lists board.which) - 1) ≡ length (list_at lists board.which)
+    one_more = omega (arith, batch.some)
+
+    some_taken : board.start.sums.n < pushed_number new
+    some_taken =
+        let some = takes_some board.start (list_at lists board.which) (length (list_at lists board.which) - 1) batch (omega (arith, batch.some)) in
+        subst (λ n. board.start.sums.n < n) (ap (λ m. pushed_number (fold_from board.start (list_at lists board.which) m)) one_more ∙ ap pushed_number (sym whole)) some
 
 -- the answers of a batch, as the first simulator gives them
 abbrev pub lists_of :

@@ -1,2 +1,3 @@
 pub mod WorkerLemmas
 pub mod CrewLemmas
+pub mod TallyLemmas

@@ -5,7 +5,7 @@ use Rattle.confidence.specs.declared.answer.Answer.{Answer}
 use Rattle.ordered_fold.specs.declared.ending.Ending.TheVariants.{Going}
 use Rattle.ordered_fold.specs.declared.front.Front.{Front}
 use Rattle.ordered_fold.specs.Front.{IsSound}
-use Rattle.ordered_fold.specs.Batch.{fold_from, folded_number}
+use Rattle.ordered_fold.specs.Batch.{fold_from, pushed_number, folded_number}
 use Rattle.claim_table.specs.declared.rule.View.{View}
 use Rattle.claim_table.specs.Shown.{BoardShown, PassShown, IsPassOf}
 use Rattle.workers.specs.Worker.{IsNew, IsOver}
@@ -28,6 +28,7 @@ pub record IsBatchRun (answers : List Answer) (workers : ℕ) (old : Front) (new
   pub sound : IsSound new
   pub total : new.total ≡ old.total
   pub going : new.ending ≡ Going → new.sums.n ≡ old.sums.n + length answers
+  pub some : old.sums.n < pushed_number new
   pub least : folded_number old new ≤ windows
   pub most : windows ≤ length answers
   pub alone : workers ≡ 1 → windows ≡ folded_number old new

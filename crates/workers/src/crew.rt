@@ -19,8 +19,7 @@ use std::thread::Threads;
 /// The answers of points that a simulator takes can stand in the cells of a board.
 fn fits_cells<S: Simulator>(points: &[S::Point])
     ensures { (u : S.Setup) → All (S.takes u) points.now → All IsHeldAnswer (map (S.answer u) points.now) }
-{
-}
+{}
 
 /// Folds a batch from a front on: the new front, and how many windows were simulated.
 fn fold_batch<L: Listed + Send, S: Simulator + Send, R: Threads + Sync, G: Gate + Sync>(
@@ -118,8 +117,14 @@ impl<S: Simulator> Crew<S> {
         ensures alike { (u : S.Setup) → Alike S.setup u self.old.simulators.items → Alike S.setup u self.new.simulators.items }
         ensures long { length self.new.simulators.items ≡ length self.old.simulators.items }
     {
-        let (front, windows) =
-            fold_batch::<Brand, S, R, G>(rt, alloc, &mut self.simulators, self.front, points, gate)?;
+        let (front, windows) = fold_batch::<Brand, S, R, G>(
+            rt,
+            alloc,
+            &mut self.simulators,
+            self.front,
+            points,
+            gate,
+        )?;
         self.front = front;
         self.windows += windows;
         Ok(())

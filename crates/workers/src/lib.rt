@@ -6,8 +6,10 @@
 mod crew;
 mod member;
 mod simulator;
+mod tally;
 mod worker;
 
 pub use crew::Crew;
 pub use simulator::Simulator;
+pub use tally::{Tally, run_points};
 pub use worker::work;

@@ -135,11 +135,13 @@ pub(crate) fn join_members<L: Listed, S: Simulator>(
     ensures alike { (u : S.Setup) → All (λ m. S.setup m.simulator ≡ u) members.items → Alike S.setup u simulators.new.items }
 {
     let mut members = members;
-    let Some(Member {
-        pass,
-        simulator,
-        answered,
-    }) = members.pop()
+    let Some(
+        Member {
+            pass,
+            simulator,
+            answered,
+        },
+    ) = members.pop()
     else {
         unreachable!();
     };

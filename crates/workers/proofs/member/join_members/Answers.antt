@@ -23,9 +23,11 @@ loop-member-init g c =
       room = search rules;
       alone = λ one. popped.1.alone (only_share _ _ _ _ (λ m. share m.pass.view) c.pop.ensures.items c.in-Some.is one c.requires.shares);
       alike = λ u all.
-          let back = all_popped (λ m. g.S.Simulator.setup m.simulator ≡ u) _ _ _ _ c.pop.ensures.items c.in-Some.is all in
-          (All-same (λ s. g.S.Simulator.setup s ≡ u) _ _ c.push_reserved.ensures.items
-          (All-push (λ s. g.S.Simulator.setup s ≡ u) _ _ (all_of_none (λ s. g.S.Simulator.setup s ≡ u) _ c.requires.room.0) back.1), back.0);
+          let back = all_popped (λ m. g.S.Simulator.setup m.simulator ≡ u) _ _ _ _ c.pop.ensures.items c.in-Some.is all in (
+            All-same (λ s. g.S.Simulator.setup s ≡ u) _ _ c.push_reserved.ensures.items
+                (All-push (λ s. g.S.Simulator.setup s ≡ u) _ _ (all_of_none (λ s. g.S.Simulator.setup s ≡ u) _ c.requires.room.0) back.1),
+            back.0,
+          );
     }
 
 pub join-requires-clause-other : goal.join-requires-clause-other
@@ -69,9 +71,11 @@ loop-member-preserved g c =
       alone = λ one. absurd (omega (arith, one, was.long, was.some, longer_by));
       alike = λ u all.
           let both = was.alike u all in
-          let back = all_popped (λ m. g.S.Simulator.setup m.simulator ≡ u) _ _ _ _ c.pop-in-loop-member.ensures.items c.in-Some-pop.is both.1 in
-          (All-same (λ s. g.S.Simulator.setup s ≡ u) _ _ c.push_reserved-in-Some-pop.ensures.items
-          (All-push (λ s. g.S.Simulator.setup s ≡ u) _ _ both.0 back.1), back.0);
+          let back = all_popped (λ m. g.S.Simulator.setup m.simulator ≡ u) _ _ _ _ c.pop-in-loop-member.ensures.items c.in-Some-pop.is both.1 in (
+            All-same (λ s. g.S.Simulator.setup s ≡ u) _ _ c.push_reserved-in-Some-pop.ensures.items
+                (All-push (λ s. g.S.Simulator.setup s ≡ u) _ _ both.0 back.1),
+            back.0,
+          );
     }
 
 pub returns-clause-alike : goal.returns-clause-alike

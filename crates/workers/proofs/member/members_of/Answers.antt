@@ -21,9 +21,12 @@ loop-simulator-preserved g c = record {
   room = search rules;
   alike = λ u all.
       let was = c.loop-simulator.invariant.alike u all in
-      let popped = all_popped (λ s. g.S.Simulator.setup s ≡ u) _ _ _ _ c.pop-in-loop-simulator.ensures.items c.in-Some-pop.is was.1 in
-      (was.0, popped.0, All-same (λ m. g.S.Simulator.setup m.simulator ≡ u) _ _ c.push_reserved.ensures.items
-      (All-push (λ m. g.S.Simulator.setup m.simulator ≡ u) _ _ was.2 popped.1));
+      let popped = all_popped (λ s. g.S.Simulator.setup s ≡ u) _ _ _ _ c.pop-in-loop-simulator.ensures.items c.in-Some-pop.is was.1 in (
+        was.0,
+        popped.0,
+        All-same (λ m. g.S.Simulator.setup m.simulator ≡ u) _ _ c.push_reserved.ensures.items
+            (All-push (λ m. g.S.Simulator.setup m.simulator ≡ u) _ _ was.2 popped.1),
+      );
 }
 
 pub returns-clause-fresh : goal.returns-clause-fresh

@@ -27,6 +27,9 @@ returns-clause-crew g c =
     c.in_ok-front.windows (length c.args.self.now.simulators.items) c.requires.crew c.requires.going (omega (arith, long, c.requires.points.1)) run)
 
 pub returns-clause-run : goal.returns-clause-run
-returns-clause-run g c = λ u alike.
-    (c.in_ok-front.windows, refl, c.in_ok-front.ensures.run (map (g.S.Simulator.answer u) c.args.points.now)
-    (lists_are g.S.Simulator.setup g.S.Simulator.answer u c.args.self.now.simulators.items c.args.points.now c.requires.crew.some alike))
+returns-clause-run g c = λ u alike. (
+  c.in_ok-front.windows,
+  refl,
+  c.in_ok-front.ensures.run (map (g.S.Simulator.answer u) c.args.points.now)
+      (lists_are g.S.Simulator.setup g.S.Simulator.answer u c.args.self.now.simulators.items c.args.points.now c.requires.crew.some alike),
+)
