@@ -13,3 +13,6 @@ pub use crew::Crew;
 pub use simulator::Simulator;
 pub use tally::{Tally, run_points};
 pub use worker::work;
+
+#[cfg(test)]
+mod tests;
