@@ -4,11 +4,8 @@ pub mod Timed
 pub mod Laws
 pub mod Trace
 pub mod Scalar
-pub mod Schedule
-pub mod Pipeline
-pub mod Retire
-pub mod Issue
-pub mod Dispatch
-pub mod Fetch
+pub mod Issues
+pub mod Ring
+pub mod Flight
 pub mod Machine
 pub mod Shown

@@ -3,13 +3,9 @@
 #![tactic(auto)]
 
 mod class;
-mod cycles;
-mod dispatch;
-mod fetch;
-mod issue;
+mod flight;
+mod issues;
 mod laws;
-mod pipeline;
-mod retire;
 mod ruu;
 mod scalar;
 mod timed;

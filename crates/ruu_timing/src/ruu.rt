@@ -4,7 +4,7 @@ ghost use Rattle.ruu_timing.specs.Laws.{IssueFirst};
 ghost use Rattle.ruu_timing.specs.Trace.{IsTrace};
 ghost use Rattle.ruu_timing.specs.Times.{cycles};
 
-use crate::pipeline::Pipeline;
+use crate::flight::Flight;
 use crate::trace::Trace;
 use hierarchy::Widths;
 use smarts_base::NoMemory;
@@ -16,19 +16,19 @@ use std::marker::Model;
 #[derive(Debug, Drop)]
 pub struct Ruu {
     widths: Widths,
-    pipeline: Pipeline,
+    flight: Flight,
 }
 
 impl Model for Ruu {
     ghost use Rattle.hierarchy.specs.Widths.{AreWidths};
-    ghost use Rattle.ruu_timing.specs.Pipeline.{IsSized};
+    ghost use Rattle.ruu_timing.specs.Flight.{IsFlight};
     ghost use Rattle.ruu_timing.specs.Shown.{RuuShown};
 
     ghost Value = { RuuShown };
 
     ghost view = { λ ruu. record { widths = ruu.widths } };
 
-    ghost invariant = { λ ruu. AreWidths ruu.widths × IsSized ruu.widths ruu.pipeline };
+    ghost invariant = { λ ruu. AreWidths ruu.widths × IsFlight ruu.widths ruu.flight };
 }
 
 impl Ruu {
@@ -38,7 +38,7 @@ impl Ruu {
     {
         Ok(Ruu {
             widths: *widths,
-            pipeline: Pipeline::new(alloc, widths)?,
+            flight: Flight::new(alloc, widths)?,
         })
     }
 
@@ -52,7 +52,10 @@ impl Ruu {
         ensures most { length (T.items trace.now) ≤ skip + 10000 → result < 2 ^ 26 }
         ensures widths { self.new ≡ self.old }
     {
-        self.pipeline.clear(&self.widths);
-        self.pipeline.total(&self.widths, trace, skip)
+        self.flight.restart(&self.widths);
+        self.flight.run(&self.widths, trace, 0, skip);
+        let before = self.flight.retired;
+        self.flight.run(&self.widths, trace, skip, trace.len());
+        u64::from(self.flight.retired - before)
     }
 }

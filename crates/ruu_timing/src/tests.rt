@@ -28,6 +28,7 @@ const WIDTHS: Widths = Widths {
     ruu: 32,
     lsq: 16,
     penalty: 6,
+    forward: 1,
     alus: 4,
     muls: 1,
     divs: 1,
@@ -45,6 +46,7 @@ const NARROW: Widths = Widths {
     ruu: 8,
     lsq: 4,
     penalty: 3,
+    forward: 1,
     alus: 2,
     muls: 2,
     divs: 2,
@@ -129,6 +131,7 @@ fn are_widths(w: &Widths) -> bool
         && w.lsq <= 128
         && w.lsq <= w.ruu
         && is_width(w.penalty, 64)
+        && is_width(w.forward, 16)
         && is_width(w.alus, 8)
         && is_width(w.muls, 8)
         && is_width(w.divs, 8)
@@ -237,6 +240,46 @@ fn times_each_instruction(rt: HostRuntime) -> Result<(), Fail> {
     }
     assert_eq!(rt; cycles(rt.alloc(), &NARROW, items.as_slice(), 0)?, 16);
     assert_eq!(rt; cycles(rt.alloc(), &NARROW, items.as_slice(), 2)?, 9);
+    Ok(())
+}
+
+/// A store, a load of its word that misses, and an instruction that waits for the load.
+const FORWARDED: [Marked; 3] = [
+    STORE,
+    Marked {
+        dest: Some(5),
+        latency: 12,
+        ..LOAD
+    },
+    Marked {
+        first: Some(5),
+        ..ALU
+    },
+];
+
+#[test]
+fn forwards_from_stores_under_way(rt: HostRuntime) -> Result<(), Fail> {
+    let mut items = FORWARDED;
+    // The load's dispatch is in the cycle of the store's retirement, and so too late.
+    for (stall, expected) in [
+        (0, [[0, 1, 2, 3, 4], [0, 1, 3, 4, 5], [1, 2, 4, 5, 6]]),
+        (2, [[0, 1, 2, 3, 4], [2, 3, 4, 5, 6], [2, 3, 5, 6, 7]]),
+        (3, [[0, 1, 2, 3, 4], [3, 4, 5, 17, 18], [3, 4, 17, 18, 19]]),
+        (
+            10,
+            [[0, 1, 2, 3, 4], [10, 11, 12, 24, 25], [10, 11, 24, 25, 26]],
+        ),
+    ] {
+        items[1].stall = stall;
+        for (i, times_of_one) in expected.iter().enumerate() {
+            assert_eq!(rt;
+                times(rt.alloc(), &NARROW, items.as_slice(), 3 - i)?,
+                *times_of_one
+            );
+        }
+        let last = expected[2][4];
+        assert_eq!(rt; cycles(rt.alloc(), &NARROW, items.as_slice(), 0)?, last);
+    }
     Ok(())
 }
 
