@@ -22,6 +22,7 @@ use Rattle.ruu_timing.specs.declared.issues.Slot.{Slot}
 use Rattle.ruu_timing.specs.declared.timed.Timed.{Timed}
 use Rattle.ruu_timing.proofs.FlightLemmas.{unit_waits}
 use Rattle.ruu_timing.proofs.IssuesLemmas.{IsNext, issued_kept, none_issued}
+use Rattle.ruu_timing.proofs.ListLemmas.{filter_short}
 use Rattle.ruu_timing.proofs.RingLemmas.{ring_more}
 use Rattle.ruu_timing.proofs.TimedLemmas.{IsDispatch, dispatched_before, issue_is, last_small, next_fetch_le, next_timed, next_times, ready_soon, retired, retired_near}
 use Rattle.ruu_timing.proofs.TimesLemmas.{AreCycles, cycles_between, last_before, retired_back, total_known}
@@ -117,14 +118,6 @@ written_length : (registers : List ℕ) (dest : Option ℕ) (completion : ℕ) �
 written_length registers None completion size = size
 written_length registers (Some r) completion size = length-set registers r completion ∙ size
 
-few_pass : (test : Timed → Bool) (earlier : List Timed) → length (filter test earlier) ≤ length earlier
-few_pass test [] = omega arith
-few_pass test (x ∷ xs) =
-    elim (test x) as (λ b. length (cond b (x ∷ filter test xs) (filter test xs)) ≤ length (x ∷ xs)) [
-      | true ↦ omega (arith, few_pass test xs)
-      | false ↦ omega (arith, few_pass test xs)
-    ]
-
 flight_next :
     (w : Widths) (earlier : List Timed) (x : Timed) (f g : Flight) → AreWidths w → length earlier < 110000 → IsKept w earlier f
     → IsNoted w f g x → AreTimed (x ∷ earlier) → HasIssued (x ∷ earlier) g.slots.items g.start → IsFlight w g
@@ -158,9 +151,9 @@ flight_next w earlier x f g widths few kept noted timed issued =
       counts = (
         omega (arith, noted.count, kept.count),
         rw (noted.accessed, kept.accessed, count_more (λ y. accesses_memory y.mark.class) earlier x)
-            (omega (arith, noted.count, kept.count, few_pass (λ y. accesses_memory y.mark.class) (x ∷ earlier))),
+            (omega (arith, noted.count, kept.count, filter_short (λ y. accesses_memory y.mark.class) (x ∷ earlier))),
         rw (noted.stored, kept.stored, count_more (λ y. is_store y.mark.class) earlier x)
-            (omega (arith, noted.count, kept.count, few_pass (λ y. is_store y.mark.class) (x ∷ earlier))),
+            (omega (arith, noted.count, kept.count, filter_short (λ y. is_store y.mark.class) (x ∷ earlier))),
       );
       next = rw noted.next (omega (arith, next_fetch_le w x.retirement widths x within));
       dispatched = rw noted.dispatched (omega (arith, within.dispatch));

@@ -6,4 +6,8 @@ pub mod IssuesLemmas
 pub mod RingLemmas
 pub mod FlightLemmas
 pub mod KeptLemmas
+pub mod EventsLemmas
+pub mod ProgressLemmas
+pub mod LookaheadLemmas
+pub mod RuuLemmas
 pub mod ScalarLemmas

@@ -1,5 +1,5 @@
 -- What holds of each element of a list, and the elements of lists.
-use Rattle.std.proofs.Common.{All, Bool, Bor, List, None, Option, Some, arith, cond, false, filter, length, option_copied, refl, subst, suc, sym, take, true, zero, ℕ, ◌≡◌, ◌≤◌, [], ◌∷◌}
+use Rattle.std.proofs.Common.{All, Bool, Bor, List, None, Option, Some, arith, cond, false, filter, length, option_copied, refl, subst, suc, sym, take, true, zero, ℕ, ◌≡◌, ◌+◌, ◌≤◌, [], ◌∷◌}
 use Rattle.std.specs.List.{find, slice_get}
 use Rattle.std.specs.Option.{IfSome}
 use Rattle.std.specs.List.{AllByRecursion}
@@ -47,6 +47,15 @@ each_of P (x ∷ xs) all =
 pub filter_none : {X : Type 0} (test : X → Bool) (xs : List X) → AllByRecursion (λ x. test x ≡ false) xs → filter test xs ≡ []
 filter_none test [] each = refl
 filter_none test (x ∷ xs) each = rw each.0 (filter_none test xs each.1)
+
+-- no more pass a test than there are
+pub filter_short : {X : Type 0} (test : X → Bool) (xs : List X) → length (filter test xs) ≤ length xs
+filter_short test [] = omega arith
+filter_short test (x ∷ xs) =
+    elim (test x) as (λ b. length (cond b (x ∷ filter test xs) (filter test xs)) ≤ length (x ∷ xs)) [
+      | true ↦ omega (arith, filter_short test xs)
+      | false ↦ omega (arith, filter_short test xs)
+    ]
 
 -- the same of one that is lent
 pub lent :

@@ -162,6 +162,35 @@ pub dispatched_before :
 unfolding dispatch_of
 dispatched_before w earlier m fetch = omega arith
 
+abbrev pub dispatched_at : List Timed → ℕ → ℕ
+dispatched_at earlier i = time_of (λ x. x.dispatch) (slice_get earlier i)
+
+pub dispatched_in_order : (earlier : List Timed) (i j : ℕ) → AreInOrder earlier → i ≤ j → dispatched_at earlier j ≤ dispatched_at earlier i
+dispatched_in_order [] i j order le = omega arith
+dispatched_in_order (x ∷ xs) zero zero order le = omega arith
+dispatched_in_order (x ∷ xs) zero (suc j) order le =
+    let h : dispatched_at xs j ≤ dispatched_at xs 0 = dispatched_in_order xs 0 j order.1 (omega arith) in
+    let e : dispatched_at xs 0 ≤ x.dispatch = order.0.order in
+    omega arith
+dispatched_in_order (x ∷ xs) (suc i) zero order le = absurd (omega arith)
+dispatched_in_order (x ∷ xs) (suc i) (suc j) order le = dispatched_in_order xs i j order.1 (omega arith)
+
+queue_waits : (w : Widths) (earlier : List Timed) (m : Marked) → AreWidths w → AreTimed earlier → time_of (λ x. x.dispatch) (back earlier 32) ≤ fetch_of w earlier m
+unfolding fetch_of
+queue_waits w earlier m widths timed =
+    let far : dispatched_at earlier 31 ≤ dispatched_at earlier (w.queue - 1) =
+    dispatched_in_order earlier (w.queue - 1) 31 timed.order (omega (arith, widths.queue.1)) in
+    omega arith
+
+pub unit_waits_most :
+    (w : Widths) (earlier : List Timed) (m : Marked) (fetch : ℕ) → AreWidths w → AreTimed earlier
+    → time_of (λ x. x.retirement) (back earlier 256) ≤ dispatch_of w earlier m fetch
+unfolding dispatch_of
+unit_waits_most w earlier m fetch widths timed =
+    let far : retired earlier 255 ≤ retired earlier (w.ruu - 1) =
+    retired_in_order earlier (w.ruu - 1) 255 timed.order (omega (arith, widths.ruu.1)) in
+    omega arith
+
 pub record IsDispatch (earlier : List Timed) (fetch dispatch : ℕ) : Type 0 where
   pub after : fetch + 1 ≤ dispatch
   pub soon : dispatch ≤ max (fetch + 1) (last_of earlier)
@@ -287,7 +316,9 @@ next_times w earlier m widths marked timed =
         complete = omega (arith, retired_then.after);
         fetched = fetched_before w earlier m;
         order = dispatched_before w earlier m fetch;
-        after = (omega (arith, dispatched.after), omega (arith, waited.after, issued.0));
+        after = (omega (arith, dispatched.after), (omega (arith, waited.after, issued.0), omega (arith, retired_then.after)));
+        queue = queue_waits w earlier m widths timed;
+        unit = unit_waits_most w earlier m fetch widths timed;
         near = omega (arith, waited.soon, issued.1, retired_then.soon);
       },
     )

@@ -115,7 +115,7 @@ issue_first w ms widths few marks place class ready =
     (All-take IsMarked place ms marks)
 
 -- the times of the first ones stand behind those of the others
-after_both :
+pub after_both :
     (w : Widths) (earlier : List Timed) (ms ns : List Marked)
     → timed_after w earlier (ms ++ ns) ≡ timed_after w (timed_after w earlier ms) ns
 unfolding timed_after

@@ -8,4 +8,7 @@ pub mod Issues
 pub mod Ring
 pub mod Flight
 pub mod Machine
-pub mod Shown
+pub mod Events
+pub mod Progress
+pub mod Lookahead
+pub mod Ruu

@@ -3,15 +3,19 @@
 #![tactic(auto)]
 
 mod class;
+mod events;
 mod flight;
 mod issues;
 mod laws;
+mod lookahead;
+mod progress;
 mod ruu;
 mod scalar;
 mod timed;
 mod trace;
 
 pub use laws::issue_law;
+pub use progress::Progress;
 pub use ruu::Ruu;
 pub use scalar::{scalar_latency, scalar_time};
 pub use timed::Timed;
