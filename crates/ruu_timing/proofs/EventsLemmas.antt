@@ -1,6 +1,6 @@
 -- The next cycle in which something happens, over the times of all instructions.
-use Rattle.std.proofs.Common.{Bool, List, ap, arith, false, inl, inr, length, map, min, nat_le, refl, suc, take, drop, true, zero, ℕ, ◌≡◌, ◌⊎◌, ◌+◌, ◌-◌, ◌^◌, ◌<◌, ◌≤◌, ◌==◌, ◌||◌, if◌then◌else◌, [], ◌∷◌}
-use Rattle.std.proofs.lemmas.Bool.{cases_eq, cases_lt, eq-eqb, le-leb, lt-leb, ne_eqb}
+use Rattle.std.proofs.Common.{Bool, List, arith, false, inl, inr, length, map, min, refl, suc, take, drop, true, zero, ℕ, ◌≡◌, ◌⊎◌, ◌+◌, ◌-◌, ◌^◌, ◌<◌, ◌≤◌, ◌==◌, ◌||◌, [], ◌∷◌}
+use Rattle.std.proofs.lemmas.Bool.{cases_lt, eq-eqb, le-leb, lt-leb, ne_eqb}
 use Rattle.std.specs.List.{AllByRecursion, slice_get}
 use Rattle.ruu_timing.specs.Events.{happens, happens_to, least_next, next_in, next_of, not_before}
 use Rattle.ruu_timing.specs.Lookahead.{cycles_in}
@@ -134,11 +134,13 @@ pub none_left : (from : ℕ) (xs : List Timed) → least_next from (map cycles_i
 none_left from [] is small = tt
 none_left from (x ∷ xs) is small =
     let rest : least_next from (map cycles_in xs) ≡ 2 ^ 32 - 1 = omega (arith, least_small from (map cycles_in xs)) in
-    let here : 2 ^ 32 - 1 ≤ not_before from x.retirement = omega arith in
-    (elim (cases_lt x.retirement from) [
-      | inl lt ↦ lt
-      | inr ge ↦ absurd (let h : 2 ^ 32 - 1 ≤ x.retirement = rw (le-leb from x.retirement ge) at here in omega (arith, small.0))
-    ], none_left from xs rest small.1)
+    let here : 2 ^ 32 - 1 ≤ not_before from x.retirement = omega arith in (
+      elim (cases_lt x.retirement from) [
+        | inl lt ↦ lt
+        | inr ge ↦ absurd (let h : 2 ^ 32 - 1 ≤ x.retirement = rw (le-leb from x.retirement ge) at here in omega (arith, small.0))
+      ],
+      none_left from xs rest small.1,
+    )
 
 -- the latest is fetched in the next cycle or later
 pub next_le_fetch : (from : ℕ) (x : Timed) (cs : List Cycles) → from ≤ x.fetch → least_next from (cycles_in x ∷ cs) ≤ x.fetch

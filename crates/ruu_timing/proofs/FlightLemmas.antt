@@ -1,7 +1,6 @@
 -- What is kept of the instructions before one is enough for its times.
-use Rattle.std.proofs.Common.{Bool, List, None, Option, Some, ap, arith, cond, drop, false, filter, get_or, inl, inr, length, max, nat_le, nat_lt, refl, set, subst, suc, sym, true, zero, ℕ, ◌≡◌, ◌+◌, ◌-◌, ◌%◌, ◌<◌, ◌≤◌, ◌&&◌, if◌then◌else◌, [], ◌∷◌, ◌∙◌}
-use Rattle.std.proofs.lemmas.Bool.{and_parts, cases_eq, cases_lt, eq-eqb, false≢true, le-leb, le-ltb, lt-leb, lt-ltb, ne_eqb}
-use Rattle.std.proofs.lemmas.List.{get_or-set_other, get_or-set_same, length-set}
+use Rattle.std.proofs.Common.{Bool, List, None, Option, Some, ap, arith, cond, drop, false, filter, get_or, inl, inr, length, max, nat_lt, refl, subst, suc, sym, true, zero, ℕ, ◌≡◌, ◌+◌, ◌-◌, ◌<◌, ◌≤◌, ◌&&◌, if◌then◌else◌, [], ◌∷◌, ◌∙◌}
+use Rattle.std.proofs.lemmas.Bool.{cases_lt, le-leb, le-ltb, lt-leb, lt-ltb}
 use Rattle.std.specs.List.{AllByRecursion, find, slice_get}
 use Rattle.std.specs.Option.{IfSome, is_some, unwrap_or}
 use Rattle.hierarchy.specs.Marked.{accesses_memory}
@@ -15,10 +14,9 @@ use Rattle.ruu_timing.specs.Issues.{HasIssued, dispatched, has_room}
 use Rattle.ruu_timing.specs.Laws.{IsFirst}
 use Rattle.ruu_timing.specs.Ring.{IsRing, ring_place}
 use Rattle.ruu_timing.specs.Timed.{AreInOrder, AreTimed, last_of}
-use Rattle.ruu_timing.specs.Times.{accesses, back, dispatch_of, elapse_of, fetch_of, is_given, issue_of, last_store, memory_ones, next_fetch, ready_of, register_time, retirement_of, source_of, stores_to, time_of, timed_of}
+use Rattle.ruu_timing.specs.Times.{back, dispatch_of, elapse_of, fetch_of, is_given, issue_of, memory_ones, ready_of, register_time, retirement_of, source_of, stores_to, time_of, timed_of}
 use Rattle.ruu_timing.specs.declared.flight.Cycles.{Cycles}
 use Rattle.ruu_timing.specs.declared.flight.Flight.{Flight}
-use Rattle.ruu_timing.specs.declared.flight.Row.{Row}
 use Rattle.ruu_timing.specs.declared.flight.StoreRow.{StoreRow}
 use Rattle.ruu_timing.specs.declared.issues.Slot.{Slot}
 use Rattle.ruu_timing.specs.declared.timed.Timed.{Timed}

@@ -1,20 +1,19 @@
 -- One more instruction in all parts of what is kept.
-use Rattle.std.proofs.Common.{Bool, List, None, Option, Some, ap, arith, cond, false, get_or, inl, inr, length, max, refl, replicate, set, subst, suc, sym, take, true, zero, ℕ, ◌≡◌, ◌+◌, ◌-◌, ◌*◌, ◌%◌, ◌^◌, ◌<◌, ◌≤◌, ◌==◌, if◌then◌else◌, [], ◌∷◌, ◌∙◌}
-use Rattle.std.proofs.lemmas.Bool.{cases_eq, cases_lt, eq-eqb, ne_eqb}
+use Rattle.std.proofs.Common.{Bool, List, None, Option, Some, ap, arith, cond, false, get_or, inl, inr, length, max, refl, replicate, set, subst, suc, sym, take, true, zero, ℕ, ◌≡◌, ◌+◌, ◌-◌, ◌*◌, ◌%◌, ◌^◌, ◌<◌, ◌≤◌, if◌then◌else◌, [], ◌∷◌, ◌∙◌}
+use Rattle.std.proofs.lemmas.Bool.{cases_eq, eq-eqb, ne_eqb}
 use Rattle.std.proofs.lemmas.List.{get_or-set_other, get_or-set_same, length-replicate, length-set, take_all}
-use Rattle.std.specs.List.{AllByRecursion, filter, find, slice_get}
-use Rattle.std.specs.Option.{IfSome}
+use Rattle.std.specs.List.{AllByRecursion, filter, find}
 use Rattle.hierarchy.specs.Marked.{IsMarked, accesses_memory}
 use Rattle.hierarchy.specs.Widths.{AreWidths}
 use Rattle.hierarchy.specs.declared.marked.Marked.{Marked}
 use Rattle.hierarchy.specs.declared.widths.Widths.{Widths}
 use Rattle.rv_isa.specs.declared.roles.Class.{Class}
 use Rattle.ruu_timing.specs.Class.{is_store}
-use Rattle.ruu_timing.specs.Flight.{HasWritten, IsCleared, IsFlight, IsKept, IsNoted, IsSmallRow, IsSmallStore, retirement_or, row_of, span, store_ones, store_row_of, written_by}
+use Rattle.ruu_timing.specs.Flight.{HasWritten, IsCleared, IsFlight, IsKept, IsNoted, IsSmallRow, IsSmallStore, retirement_or, row_of, span, store_row_of, written_by}
 use Rattle.ruu_timing.specs.Issues.{HasIssued, IsPower, dispatched, issued_in, one_more, place_of, slot_at}
 use Rattle.ruu_timing.specs.Ring.{IsRing, ring_place}
 use Rattle.ruu_timing.specs.Timed.{AreTimed, IsWithin, last_of}
-use Rattle.ruu_timing.specs.Times.{back, dispatch_of, elapse_of, fetch_of, is_given, issue_of, memory_ones, next_fetch, ready_of, register_time, retirement_of, time_of, timed_of, times, writes}
+use Rattle.ruu_timing.specs.Times.{back, dispatch_of, elapse_of, fetch_of, is_given, issue_of, ready_of, retirement_of, time_of, timed_of, times, writes}
 use Rattle.ruu_timing.specs.declared.flight.Flight.{Flight}
 use Rattle.ruu_timing.specs.declared.flight.Row.{Row}
 use Rattle.ruu_timing.specs.declared.flight.StoreRow.{StoreRow}

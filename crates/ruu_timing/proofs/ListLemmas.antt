@@ -1,5 +1,5 @@
 -- What holds of each element of a list, and the elements of lists.
-use Rattle.std.proofs.Common.{All, Bool, Bor, List, None, Option, Some, arith, cond, false, filter, length, option_copied, refl, subst, suc, sym, take, true, zero, ℕ, ◌≡◌, ◌+◌, ◌≤◌, [], ◌∷◌}
+use Rattle.std.proofs.Common.{All, Bool, Bor, List, None, Option, Some, arith, cond, false, filter, length, option_copied, refl, subst, suc, sym, take, true, zero, ℕ, ◌≡◌, ◌≤◌, [], ◌∷◌}
 use Rattle.std.specs.List.{find, slice_get}
 use Rattle.std.specs.Option.{IfSome}
 use Rattle.std.specs.List.{AllByRecursion}

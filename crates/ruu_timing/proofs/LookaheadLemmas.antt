@@ -1,10 +1,10 @@
 -- The instructions that are timed so far say all of a trace up to the fetch of the latest.
-use Rattle.std.proofs.Common.{All, Bool, List, None, Option, Some, ap, arith, drop, false, filter, inl, inr, length, map, nat_lt, refl, subst, suc, sym, take, true, zero, ℕ, ◌≡◌, ◌⊎◌, ◌+◌, ◌-◌, ◌<◌, ◌≤◌, ◌==◌, ◌||◌, [], ◌∷◌, ◌++◌, ◌∙◌}
+use Rattle.std.proofs.Common.{All, Bool, List, None, Option, Some, ap, arith, drop, false, filter, inl, inr, length, map, nat_lt, refl, subst, suc, sym, take, true, zero, ℕ, ◌≡◌, ◌⊎◌, ◌+◌, ◌-◌, ◌<◌, ◌≤◌, ◌||◌, [], ◌∷◌, ◌∙◌}
 use Rattle.std.proofs.lemmas.Bool.{ne_eqb}
 use Rattle.std.proofs.lemmas.List.{length-drop, length-map, length-take, length-take-le, take-append-drop, take-map, take-take, take_all}
 use Rattle.std.proofs.lemmas.List.Elements.{All-drop}
 use Rattle.std.specs.List.{AllByRecursion, slice_get}
-use Rattle.circular_buffer.specs.Buffer.{Buffer, buffer}
+use Rattle.circular_buffer.specs.Buffer.{buffer}
 use Rattle.hierarchy.specs.Marked.{IsMarked}
 use Rattle.hierarchy.specs.Widths.{AreWidths}
 use Rattle.hierarchy.specs.declared.marked.Marked.{Marked}
@@ -19,7 +19,6 @@ use Rattle.ruu_timing.specs.declared.flight.Cycles.{Cycles}
 use Rattle.ruu_timing.specs.declared.flight.Flight.{Flight}
 use Rattle.ruu_timing.specs.declared.lookahead.Lookahead.{Lookahead}
 use Rattle.ruu_timing.specs.declared.timed.Timed.{Timed}
-use Rattle.ruu_timing.proofs.EventsLemmas.{AreBefore, not_to}
 use Rattle.ruu_timing.proofs.ListLemmas.{each_more, each_of, ends_by}
 use Rattle.ruu_timing.proofs.ProgressLemmas.{count_cons, count_is, one_not}
 use Rattle.ruu_timing.proofs.TimedLemmas.{dispatched_at, next_timed, next_times, retired}

@@ -1,6 +1,6 @@
 -- Counts of the instructions whose times have come.
-use Rattle.std.proofs.Common.{Bool, List, ap, arith, cond, drop, false, filter, inl, inr, length, map, nat_lt, refl, suc, take, true, zero, ℕ, ◌≡◌, ◌+◌, ◌-◌, ◌*◌, ◌<◌, ◌≤◌, ◌==◌, ◌||◌, if◌then◌else◌, [], ◌∷◌}
-use Rattle.std.proofs.lemmas.Bool.{cases_eq, cases_lt, eq-eqb, false≢true, le-ltb, lt-ltb, ne_eqb}
+use Rattle.std.proofs.Common.{Bool, List, arith, cond, drop, false, filter, inl, inr, length, map, nat_lt, refl, suc, take, true, zero, ℕ, ◌≡◌, ◌+◌, ◌-◌, ◌*◌, ◌<◌, ◌≤◌, ◌==◌, ◌||◌, if◌then◌else◌, [], ◌∷◌}
+use Rattle.std.proofs.lemmas.Bool.{cases_eq, cases_lt, false≢true, le-ltb, lt-ltb, ne_eqb}
 use Rattle.std.specs.List.{AllByRecursion}
 use Rattle.ruu_timing.specs.Events.{happens, happens_to}
 use Rattle.ruu_timing.specs.Lookahead.{cycles_in}
@@ -92,12 +92,16 @@ ones_gain from t x le is = go (x.fetch == t) (x.dispatch == t) (x.issue == t) re
   where
     fetches : one_before from x.fetch ≤ one_before (t + 1) x.fetch
     fetches = one_rises from (t + 1) x.fetch (omega arith)
+
     dispatches : one_before from x.dispatch ≤ one_before (t + 1) x.dispatch
     dispatches = one_rises from (t + 1) x.dispatch (omega arith)
+
     issues : one_before from x.issue ≤ one_before (t + 1) x.issue
     issues = one_rises from (t + 1) x.issue (omega arith)
+
     retires : one_before from x.retirement ≤ one_before (t + 1) x.retirement
     retires = one_rises from (t + 1) x.retirement (omega arith)
+
     go :
         (a b c : Bool) → (x.fetch == t) ≡ a → (x.dispatch == t) ≡ b → (x.issue == t) ≡ c
         → (a || (b || (c || (x.retirement == t)))) ≡ true → ones from x < ones (t + 1) x
@@ -145,6 +149,7 @@ some_left from t (x ∷ xs) le is order = go (happens_to t x) refl is (λ h. som
       | inl same ↦ omega arith
       | inr other ↦ absurd (false≢true (rw (ne_eqb x.retirement t other) at is))
     ]
+
     go :
         (b : Bool) → happens_to t x ≡ b → (b || happens xs t) ≡ true
         → (happens xs t ≡ true → count_before (λ y. y.retirement) from xs < length xs)

@@ -1,6 +1,6 @@
 -- A ring with one more.
-use Rattle.std.proofs.Common.{List, None, Option, Some, arith, get_or, length, refl, set, suc, zero, ℕ, ◌≡◌, ◌≢◌, ◌+◌, ◌-◌, ◌%◌, ◌<◌, ◌≤◌, [], ◌∷◌, ◌∙◌}
-use Rattle.std.proofs.lemmas.List.{get_or-replicate, get_or-set_other, get_or-set_same, length-set}
+use Rattle.std.proofs.Common.{List, None, Option, Some, arith, get_or, length, refl, set, suc, zero, ℕ, ◌≡◌, ◌≢◌, ◌-◌, ◌%◌, ◌≤◌, ◌∷◌, ◌∙◌}
+use Rattle.std.proofs.lemmas.List.{get_or-set_other, get_or-set_same, length-set}
 use Rattle.ruu_timing.specs.Ring.{IsRing, ring_place}
 use Rattle.ruu_timing.specs.Times.{back}
 use Rattle.ruu_timing.specs.declared.timed.Timed.{Timed}

@@ -1,6 +1,5 @@
 -- The times of the first instructions of a trace, and the cycles between two of them.
 use Rattle.std.proofs.Common.{All, List, Some, ap, arith, drop, inl, inr, length, refl, subst, suc, sym, take, ℕ, ◌≡◌, ◌+◌, ◌-◌, ◌*◌, ◌^◌, ◌<◌, ◌≤◌, [], ◌∷◌, ◌++◌, ◌∙◌}
-use Rattle.rv_isa.specs.declared.roles.Class.{Class}
 use Rattle.std.proofs.lemmas.Bool.{cases_lt}
 use Rattle.std.proofs.lemmas.List.{length-drop, length-take-le, take-append-drop, take_all, take_more}
 use Rattle.std.proofs.lemmas.List.Elements.{All-get_or, All-take}

@@ -1,7 +1,7 @@
 -- What is kept of the instructions before one, and what it says of them.
-use Rattle.std.specs.Prelude.{◌≡◌, ◌<◌, ◌≤◌, ℕ, ◌+◌, ◌-◌, ◌*◌, ◌%◌, ◌^◌, nat_le, if◌then◌else◌, List, [], ◌∷◌, length, get_or, replicate, slice_set, Option, Some, None}
+use Rattle.std.specs.Prelude.{◌≡◌, ◌<◌, ◌≤◌, ℕ, ◌+◌, ◌*◌, ◌%◌, ◌^◌, nat_le, if◌then◌else◌, List, [], ◌∷◌, length, get_or, replicate, slice_set, Option, Some, None}
 use Rattle.std.specs.Option.{IfSome}
-use Rattle.std.specs.List.{AllByRecursion, filter, slice_get}
+use Rattle.std.specs.List.{AllByRecursion, filter}
 use Rattle.hierarchy.specs.declared.marked.Marked.{Marked}
 use Rattle.hierarchy.specs.declared.widths.Widths.{Widths}
 use Rattle.hierarchy.specs.Marked.{accesses_memory}
@@ -10,7 +10,7 @@ use Rattle.ruu_timing.specs.declared.flight.Row.{Row}
 use Rattle.ruu_timing.specs.declared.flight.StoreRow.{StoreRow}
 use Rattle.ruu_timing.specs.declared.flight.Flight.{Flight}
 use Rattle.ruu_timing.specs.declared.flight.Cycles.{Cycles}
-use Rattle.ruu_timing.specs.Class.{is_store, is_ecall}
+use Rattle.ruu_timing.specs.Class.{is_store}
 use Rattle.ruu_timing.specs.Ring.{IsRing, ring_place}
 use Rattle.ruu_timing.specs.Issues.{HasIssued, IsPower, dispatched, issued_in}
 use Rattle.ruu_timing.specs.Timed.{AreTimed, last_of}

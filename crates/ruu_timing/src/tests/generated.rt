@@ -1,7 +1,7 @@
 //! Traces and widths from a number.
 ghost use Rattle.std.specs.Prelude.{◌<◌, ◌≤◌};
 
-use super::{cycles, plain_cycles};
+use super::{cycles, plain_cycles, plain_turns, turns};
 use hierarchy::{Marked, Widths};
 use rv_isa::Class;
 use std::alloc::{AllocError, Global};
@@ -118,6 +118,9 @@ fn both_bodies_agree_with_the_reference(rt: HostRuntime) -> Result<(), Fail> {
         let total = cycles(rt.alloc(), &widths, &items, skip)?;
         assert_eq!(rt; plain_cycles(rt.alloc(), &widths, &items, skip)?, total);
         sum = sum.wrapping_mul(31).wrapping_add(total);
+        let turned = turns(rt.alloc(), &widths, &items)?;
+        let plain = plain_turns(rt.alloc(), &widths, &items)?;
+        assert_eq!(rt; turned.as_slice(), plain.as_slice());
     }
     assert_eq!(rt; sum, REFERENCE);
     Ok(())

@@ -375,8 +375,8 @@ const WHOLE: [Case; 4] = [
             ALU,
         ],
         4,
-        [95, 96, 97, 98, 99],
-        50,
+        [93, 94, 95, 96, 97],
+        49,
     ),
     // Each waits for the one before, at the longest latency, in a full unit.
     (

@@ -1,6 +1,5 @@
-use Rattle.std.proofs.Common.{◌≡◌, ◌≤◌, [], drop, length, arith}
+use Rattle.std.proofs.Common.{◌≡◌, [], drop, arith}
 use Rattle.std.proofs.lemmas.List.{drop_all}
-use Rattle.ruu_timing.specs.Events.{least_next}
 use Rattle.ruu_timing.proofs.EventsLemmas.{least_rest, least_small}
 use Rattle.ruu_timing.proofs.events.least_next.Goals as goal
 

@@ -1,4 +1,4 @@
-use Rattle.std.proofs.Common.{sym, arith, ◌∙◌, ◌≡◌, ◌+◌, ◌-◌, ◌<◌}
+use Rattle.std.proofs.Common.{sym, arith, ◌∙◌, ◌≡◌, ◌+◌, ◌-◌}
 use Rattle.ruu_timing.proofs.FlightLemmas.{store_here, store_retired, store_waits}
 use Rattle.ruu_timing.proofs.flight.in_flight.Goals as goal
 

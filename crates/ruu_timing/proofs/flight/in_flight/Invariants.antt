@@ -1,7 +1,6 @@
 use Rattle.std.proofs.Common.{◌≡◌, ◌-◌, ◌<◌, ◌≤◌, List, length}
-use Rattle.ruu_timing.specs.Flight.{Falls, completion_in, late, store_row_of}
+use Rattle.ruu_timing.specs.Flight.{store_row_of}
 use Rattle.ruu_timing.specs.Ring.{IsRing}
-use Rattle.ruu_timing.specs.Times.{is_given, time_of}
 use Rattle.ruu_timing.specs.declared.timed.Timed.{Timed}
 use Rattle.ruu_timing.proofs.FlightLemmas.{sought}
 use Rattle.ruu_timing.proofs.TimedLemmas.{retired}

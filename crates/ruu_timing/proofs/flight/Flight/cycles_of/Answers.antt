@@ -1,4 +1,4 @@
-use Rattle.std.proofs.Common.{◌+◌, ap, refl}
+use Rattle.std.proofs.Common.{◌+◌, ap}
 use Rattle.ruu_timing.proofs.FlightLemmas.{timed_is, unit_waits}
 use Rattle.ruu_timing.proofs.flight.Flight.cycles_of.Goals as goal
 

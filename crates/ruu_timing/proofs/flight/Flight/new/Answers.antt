@@ -1,4 +1,4 @@
-use Rattle.std.proofs.Common.{arith, refl}
+use Rattle.std.proofs.Common.{arith}
 use Rattle.ruu_timing.proofs.KeptLemmas.{kept_none}
 use Rattle.ruu_timing.proofs.flight.Flight.new.Goals as goal
 

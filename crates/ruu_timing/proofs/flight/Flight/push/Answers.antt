@@ -1,5 +1,5 @@
 use Rattle.std.proofs.Common.{subst}
-use Rattle.ruu_timing.specs.Flight.{IsNoted, timed_with}
+use Rattle.ruu_timing.specs.Flight.{IsNoted}
 use Rattle.ruu_timing.specs.Times.{timed_of}
 use Rattle.ruu_timing.proofs.KeptLemmas.{kept_next}
 use Rattle.ruu_timing.proofs.flight.Flight.push.Goals as goal

@@ -1,4 +1,3 @@
-use Rattle.std.proofs.Common.{arith}
 use Rattle.ruu_timing.proofs.KeptLemmas.{kept_none}
 use Rattle.ruu_timing.proofs.flight.Flight.restart.Goals as goal
 

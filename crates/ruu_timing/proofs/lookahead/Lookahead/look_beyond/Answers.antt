@@ -1,9 +1,3 @@
-use Rattle.std.proofs.Common.{◌≡◌, ◌≤◌, ◌+◌, ◌∷◌, List, ap, arith, drop, subst, sym, take}
-use Rattle.std.specs.List.{AllByRecursion}
-use Rattle.hierarchy.specs.declared.marked.Marked.{Marked}
-use Rattle.ruu_timing.specs.Lookahead.{timed_in}
-use Rattle.ruu_timing.specs.Times.{times}
-use Rattle.ruu_timing.specs.declared.timed.Timed.{Timed}
 use Rattle.ruu_timing.proofs.LookaheadLemmas.{gone_next, latest_is}
 use Rattle.ruu_timing.proofs.lookahead.Lookahead.look_beyond.Goals as goal
 

@@ -1,4 +1,4 @@
-use Rattle.std.proofs.Common.{◌≡◌, ◌-◌, ◌≤◌, drop, length}
+use Rattle.std.proofs.Common.{◌-◌, ◌≤◌, drop, length}
 use Rattle.std.specs.List.{AllByRecursion}
 use Rattle.ruu_timing.specs.Lookahead.{IsAhead, timed_in}
 use Rattle.ruu_timing.proofs.lookahead.Lookahead.look_beyond.Given as goal

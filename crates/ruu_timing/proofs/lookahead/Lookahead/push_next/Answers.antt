@@ -1,10 +1,9 @@
-use Rattle.std.proofs.Common.{◌<◌, ◌≡◌, ◌+◌, ◌∷◌, List, length, take, arith}
-use Rattle.circular_buffer.specs.Buffer.{buffer}
+use Rattle.std.proofs.Common.{◌<◌, List, length}
 use Rattle.hierarchy.specs.declared.marked.Marked.{Marked}
 use Rattle.ruu_timing.specs.Lookahead.{timed_in}
 use Rattle.ruu_timing.specs.declared.timed.Timed.{Timed}
 use Rattle.ruu_timing.proofs.LookaheadLemmas.{ahead_more, short_in}
-use Rattle.ruu_timing.proofs.TimesLemmas.{marked_at, times_more}
+use Rattle.ruu_timing.proofs.TimesLemmas.{times_more}
 use Rattle.ruu_timing.proofs.lookahead.Lookahead.push_next.Goals as goal
 
 pub returns-clause-ahead : goal.returns-clause-ahead

@@ -151,8 +151,13 @@ returns-clause-rises g c =
     let left : sum_of c.args.self.now.progress ≡ sum_of c.self.inside.progress = ap (λ (v : RuuShown). sum_of v.progress) (sym c.self.view_is) in
     let right : sum_of c.progress-self-inside.result ≡ sum_of (progress_before (times c.self.inside.widths items) (t + 1)) =
     ap (λ (p : Progress). sum_of p) (c.progress-self-inside.ensures ∙ now) in
-    omega (arith, left, right, turn_rises c.self.inside.widths c.self.invariant.0 (g.T.Trace.items c.args.trace.now) c.requires.few c.requires.marks c.self.inside.cycle
-    c.self.inside.progress c.self.inside.ahead under c.start.new.self c.start.ensures.ahead c.start.ensures.count c.start.ensures.same t turn)
+    omega (
+      arith,
+      left,
+      right,
+      turn_rises c.self.inside.widths c.self.invariant.0 (g.T.Trace.items c.args.trace.now) c.requires.few c.requires.marks c.self.inside.cycle
+          c.self.inside.progress c.self.inside.ahead under c.start.new.self c.start.ensures.ahead c.start.ensures.count c.start.ensures.same t turn,
+    )
 
 pub returns-clause-most : goal.returns-clause-most
 returns-clause-most g c =
@@ -169,5 +174,9 @@ returns-clause-most g c =
     c.look_beyond.ensures.ahead c.look_beyond.ensures.reach c.look_beyond.ensures.gone).progress in
     let right : sum_of c.progress-self-inside.result ≡ sum_of (progress_before (times c.self.inside.widths items) (t + 1)) =
     ap (λ (p : Progress). sum_of p) (c.progress-self-inside.ensures ∙ now) in
-    omega (arith, right, most c.self.inside.widths c.self.invariant.0 (g.T.Trace.items c.args.trace.now) c.requires.few c.requires.marks c.self.inside.cycle
-    c.self.inside.progress c.self.inside.ahead under c.start.new.self c.start.ensures.ahead c.start.ensures.count c.start.ensures.same (t + 1))
+    omega (
+      arith,
+      right,
+      most c.self.inside.widths c.self.invariant.0 (g.T.Trace.items c.args.trace.now) c.requires.few c.requires.marks c.self.inside.cycle
+          c.self.inside.progress c.self.inside.ahead under c.start.new.self c.start.ensures.ahead c.start.ensures.count c.start.ensures.same (t + 1),
+    )
