@@ -295,6 +295,7 @@ impl Flight {
     }
 
     /// The times of an instruction that follows.
+    #[inline(always)]
     fn cycles_of(&self, w: &Widths, mark: &Marked) -> Cycles
         requires widths { AreWidths w.now }
         requires mark { IsMarked mark.now }
@@ -352,6 +353,7 @@ impl Flight {
         }
     }
 
+    #[inline(always)]
     fn note(&mut self, w: &Widths, mark: &Marked, cycles: &Cycles)
         requires widths { AreWidths w.now }
         requires flight { IsFlight w.now self.old }
@@ -375,6 +377,7 @@ impl Flight {
     }
 
     /// Times one more instruction.
+    #[inline(always)]
     pub(crate) fn push(&mut self, w: &Widths, mark: &Marked) -> Cycles
         requires widths { AreWidths w.now }
         requires mark { IsMarked mark.now }
