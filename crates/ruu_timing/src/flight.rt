@@ -187,6 +187,15 @@ fn elapse_of(w: &Widths, mark: &Marked, source: Option<u32>) -> u32
     }
 }
 
+/// The mark, whose class is known.
+#[inline(always)]
+fn of_class(mark: &Marked, class: Class) -> Marked
+    requires { mark.now.class ≡ class }
+    ensures { result ≡ mark.now }
+{
+    Marked { class, ..*mark }
+}
+
 impl Flight {
     /// The `k`-th instruction back.
     fn row(&self, k: u32) -> Row
@@ -376,9 +385,9 @@ impl Flight {
         self.retired = cycles.retirement;
     }
 
-    /// Times one more instruction.
+    /// Times one more instruction, whatever its class.
     #[inline(always)]
-    pub(crate) fn push(&mut self, w: &Widths, mark: &Marked) -> Cycles
+    fn push_one(&mut self, w: &Widths, mark: &Marked) -> Cycles
         requires widths { AreWidths w.now }
         requires mark { IsMarked mark.now }
         requires flight { IsFlight w.now self.old }
@@ -389,6 +398,28 @@ impl Flight {
         let cycles = self.cycles_of(w, mark);
         self.note(w, mark, &cycles);
         cycles
+    }
+
+    /// Times one more instruction. Each class has the step to itself, so that what the class settles is
+    /// settled when the program is built.
+    #[inline(always)]
+    pub(crate) fn push(&mut self, w: &Widths, mark: &Marked) -> Cycles
+        requires widths { AreWidths w.now }
+        requires mark { IsMarked mark.now }
+        requires flight { IsFlight w.now self.old }
+        ensures times { (earlier : List TimedValue) → IsKept w.now earlier self.old → timed_with mark.now result ≡ timed_of w.now earlier mark.now }
+        ensures kept { (earlier : List TimedValue) → IsKept w.now earlier self.old → length earlier < 110000
+            → IsKept w.now (timed_of w.now earlier mark.now ∷ earlier) self.new }
+    {
+        match mark.class {
+            Class::Alu => self.push_one(w, &of_class(mark, Class::Alu)),
+            Class::Mul => self.push_one(w, &of_class(mark, Class::Mul)),
+            Class::Div => self.push_one(w, &of_class(mark, Class::Div)),
+            Class::Load => self.push_one(w, &of_class(mark, Class::Load)),
+            Class::Store => self.push_one(w, &of_class(mark, Class::Store)),
+            Class::Control => self.push_one(w, &of_class(mark, Class::Control)),
+            Class::Ecall => self.push_one(w, &of_class(mark, Class::Ecall)),
+        }
     }
 
     /// Times the instructions of a trace from one place up to another.

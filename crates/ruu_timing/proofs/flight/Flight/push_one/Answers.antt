@@ -2,7 +2,7 @@ use Rattle.std.proofs.Common.{subst}
 use Rattle.ruu_timing.specs.Flight.{IsNoted}
 use Rattle.ruu_timing.specs.Times.{timed_of}
 use Rattle.ruu_timing.proofs.KeptLemmas.{kept_next}
-use Rattle.ruu_timing.proofs.flight.Flight.push.Goals as goal
+use Rattle.ruu_timing.proofs.flight.Flight.push_one.Goals as goal
 
 pub returns-clause-kept : goal.returns-clause-kept
 returns-clause-kept c = λ earlier kept few.
