@@ -47,7 +47,7 @@ def reference():
         shutil.copytree(os.path.join(SHARED, "oracle"), sources)
         subprocess.run(["chmod", "-R", "u+w", sources], check=True)
         subprocess.run(["make", "-s", "-C", sources], check=True, stdout=subprocess.DEVNULL)
-        yield [os.path.join(sources, "oracle"), "--format", "1", "--no-forward"]
+        yield [os.path.join(sources, "oracle"), "--format", "1"]
 
 
 def best(commands, image):

@@ -14,6 +14,7 @@ pub record AreWidths (w : Widths) : Type 0 where
   pub lsq : (2 ≤ w.lsq) × (w.lsq ≤ 128)
   pub lsq_within : w.lsq ≤ w.ruu
   pub penalty : (1 ≤ w.penalty) × (w.penalty ≤ 64)
+  pub forward : (1 ≤ w.forward) × (w.forward ≤ 16)
   pub alus : (1 ≤ w.alus) × (w.alus ≤ 8)
   pub muls : (1 ≤ w.muls) × (w.muls ≤ 8)
   pub divs : (1 ≤ w.divs) × (w.divs ≤ 8)

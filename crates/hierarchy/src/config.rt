@@ -64,6 +64,7 @@ fn are_in_range(widths: &Widths) -> bool
         && within(widths.ruu, 4, 256)
         && within(widths.lsq, 2, 128)
         && within(widths.penalty, 1, 64)
+        && within(widths.forward, 1, 16)
         && within(widths.alus, 1, 8)
         && within(widths.muls, 1, 8)
         && within(widths.divs, 1, 8)

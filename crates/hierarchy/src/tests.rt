@@ -11,7 +11,7 @@ use std::process::Abort;
 use std::test::Fail;
 
 /// The least and the most of each width and then of each latency, in the order of their fields.
-const RANGES: [(u32, u32); 20] = [
+const RANGES: [(u32, u32); 21] = [
     (1, 8),
     (1, 8),
     (1, 8),
@@ -20,6 +20,7 @@ const RANGES: [(u32, u32); 20] = [
     (4, 256),
     (2, 128),
     (1, 64),
+    (1, 16),
     (1, 8),
     (1, 8),
     (1, 8),
@@ -35,12 +36,12 @@ const RANGES: [(u32, u32); 20] = [
 ];
 
 /// Numbers within them, with room for every other `ruu` and `lsq`.
-const NUMBERS: [u32; 20] = [
-    4, 4, 4, 4, 8, 256, 4, 6, 4, 1, 1, 2, 1, 1, 3, 20, 2, 10, 100, 30,
+const NUMBERS: [u32; 21] = [
+    4, 4, 4, 4, 8, 256, 4, 6, 1, 4, 1, 1, 2, 1, 1, 3, 20, 2, 10, 100, 30,
 ];
 
 /// The numbers with others for the register update unit and for the load and store queue.
-fn with_queues(ruu: u32, lsq: u32) -> [u32; 20] {
+fn with_queues(ruu: u32, lsq: u32) -> [u32; 21] {
     let mut numbers = NUMBERS;
     numbers[5] = ruu;
     numbers[6] = lsq;
@@ -70,7 +71,7 @@ fn tiny_places() -> Result<Places<Geometry>, Fail> {
     })
 }
 
-fn config_of(places: Places<Geometry>, kind: PredictorKind, numbers: &[u32; 20]) -> Config {
+fn config_of(places: Places<Geometry>, kind: PredictorKind, numbers: &[u32; 21]) -> Config {
     let widths = Widths {
         fetch: numbers[0],
         dispatch: numbers[1],
@@ -80,20 +81,21 @@ fn config_of(places: Places<Geometry>, kind: PredictorKind, numbers: &[u32; 20])
         ruu: numbers[5],
         lsq: numbers[6],
         penalty: numbers[7],
-        alus: numbers[8],
-        muls: numbers[9],
-        divs: numbers[10],
-        loads: numbers[11],
-        stores: numbers[12],
-        branches: numbers[13],
+        forward: numbers[8],
+        alus: numbers[9],
+        muls: numbers[10],
+        divs: numbers[11],
+        loads: numbers[12],
+        stores: numbers[13],
+        branches: numbers[14],
     };
     let latencies = Latencies {
-        mul: numbers[14],
-        div: numbers[15],
-        l1: numbers[16],
-        l2: numbers[17],
-        mem: numbers[18],
-        tlb: numbers[19],
+        mul: numbers[15],
+        div: numbers[16],
+        l1: numbers[17],
+        l2: numbers[18],
+        mem: numbers[19],
+        tlb: numbers[20],
     };
     Config {
         ruu: true,

@@ -14,6 +14,8 @@ pub struct Widths {
     pub lsq: u32,
     /// Cycles from the completion of a mispredicted instruction to the next fetch, from 1 to 64.
     pub penalty: u32,
+    /// Cycles from issue to completion of a load that takes its value from a store under way, from 1 to 16.
+    pub forward: u32,
     /// Instructions of each class that issue in a cycle, each from 1 to 8.
     pub alus: u32,
     pub muls: u32,

@@ -76,17 +76,26 @@ register_time earlier None = 0
 register_time earlier (Some register) =
     time_of (λ x. x.completion) (find (λ x. writes register x) earlier)
 
--- when the last store to a word has completed
-abbrev pub word_time : List Timed → Option ℕ → ℕ
-word_time earlier None = 0
-word_time earlier (Some word) =
-    time_of (λ x. x.completion) (find (λ x. stores_to word x) earlier)
+-- the last store to a word
+abbrev pub last_store : List Timed → Option ℕ → Option Timed
+last_store earlier None = None
+last_store earlier (Some word) = find (λ x. stores_to word x) earlier
+
+-- the store that a load reads from
+abbrev pub source_of : List Timed → Marked → Option Timed
+source_of earlier m = if is_load m.class then last_store earlier m.word else None
 
 -- when an instruction's registers and, of a load, the word in memory are there, after the dispatch
 unfoldable pub ready_of : List Timed → Marked → ℕ → ℕ
 ready_of earlier m dispatch =
-    max (max (dispatch + 1) (if is_load m.class then word_time earlier m.word else 0))
+    max (max (dispatch + 1) (time_of (λ x. x.completion) (source_of earlier m)))
     (max (register_time earlier m.first) (register_time earlier m.second))
+
+-- the cycles from issue to completion: a load is forwarded the word by the store that it reads from, where that
+-- is retired only after the load's dispatch
+unfoldable pub elapse_of : Widths → List Timed → Marked → ℕ → ℕ
+elapse_of w earlier m dispatch =
+    if nat_lt dispatch (time_of (λ x. x.retirement) (source_of earlier m)) then w.forward else m.latency
 
 -- whether it issues in a cycle
 abbrev pub issues_at : ℕ → Timed → Bool
@@ -122,13 +131,14 @@ timed_of w earlier m =
     let fetch = fetch_of w earlier m in
     let dispatch = dispatch_of w earlier m fetch in
     let issue = issue_of w earlier m.class (ready_of earlier m dispatch) in
+    let completion = issue + elapse_of w earlier m dispatch in
     record {
       mark = m;
       fetch = fetch;
       dispatch = dispatch;
       issue = issue;
-      completion = issue + m.latency;
-      retirement = retirement_of w earlier (issue + m.latency);
+      completion = completion;
+      retirement = retirement_of w earlier completion;
     }
 
 -- each instruction of the list in turn, behind those that stand before it

@@ -3,19 +3,19 @@
 #![tactic(auto)]
 
 mod class;
-mod cycles;
-mod dispatch;
-mod fetch;
-mod issue;
+mod events;
+mod flight;
+mod issues;
 mod laws;
-mod pipeline;
-mod retire;
+mod lookahead;
+mod progress;
 mod ruu;
 mod scalar;
 mod timed;
 mod trace;
 
 pub use laws::issue_law;
+pub use progress::Progress;
 pub use ruu::Ruu;
 pub use scalar::{scalar_latency, scalar_time};
 pub use timed::Timed;

@@ -11,7 +11,7 @@ mod rows;
 mod rules;
 
 use crate::class::accesses_memory;
-use crate::{Ruu, SliceTrace, Trace, scalar_time};
+use crate::{Progress, Ruu, SliceTrace, Trace, scalar_time};
 use hierarchy::{Latencies, Marked, Widths};
 use plain::PlainRuu;
 use rows::Rows;
@@ -28,6 +28,7 @@ const WIDTHS: Widths = Widths {
     ruu: 32,
     lsq: 16,
     penalty: 6,
+    forward: 1,
     alus: 4,
     muls: 1,
     divs: 1,
@@ -45,6 +46,7 @@ const NARROW: Widths = Widths {
     ruu: 8,
     lsq: 4,
     penalty: 3,
+    forward: 1,
     alus: 2,
     muls: 2,
     divs: 2,
@@ -129,6 +131,7 @@ fn are_widths(w: &Widths) -> bool
         && w.lsq <= 128
         && w.lsq <= w.ruu
         && is_width(w.penalty, 64)
+        && is_width(w.forward, 16)
         && is_width(w.alus, 8)
         && is_width(w.muls, 8)
         && is_width(w.divs, 8)
@@ -198,31 +201,105 @@ fn times(alloc: Global, widths: &Widths, items: &[Marked], k: usize) -> Result<[
     Ok([x.fetch, x.dispatch, x.issue, x.completion, x.retirement])
 }
 
+/// The cycles that turns go to.
+fn turns(alloc: Global, widths: &Widths, items: &[Marked]) -> Result<Vec<u64>, Fail> {
+    if !are_widths(widths) || !is_trace(items, 0) {
+        return Err(Fail::from("no such trace"));
+    }
+    let mut ruu = Ruu::new(alloc, widths)?;
+    let trace = SliceTrace { items };
+    let mut cycles = Vec::new(alloc);
+    'turns: while ruu.turn(&trace) {
+        cycles.push(ruu.now().ok_or("no cycle")?)?;
+    }
+    Ok(cycles)
+}
+
+/// The same by the plain body: all times but the completions, in order.
+fn plain_turns(alloc: Global, widths: &Widths, items: &[Marked]) -> Result<Vec<u64>, Fail> {
+    let mut cycles = Vec::new(alloc);
+    for k in 0..items.len() {
+        let times_of_one = times(alloc, widths, items, k + 1)?;
+        for i in [0, 1, 2, 4] {
+            cycles.push(times_of_one[i])?;
+        }
+    }
+    cycles.sort_unstable();
+    cycles.dedup();
+    Ok(cycles)
+}
+
+/// An instruction that a load waits for, a jump that is mispredicted, and one behind it.
+const MISPREDICTED: [Marked; 4] = [
+    Marked {
+        dest: Some(5),
+        ..ALU
+    },
+    Marked {
+        first: Some(5),
+        dest: Some(6),
+        latency: 3,
+        ..LOAD
+    },
+    Marked {
+        first: Some(6),
+        mispredicted: true,
+        transferred: true,
+        ..JUMP
+    },
+    Marked {
+        dest: Some(7),
+        stall: 2,
+        ..ALU
+    },
+];
+
+#[test]
+fn goes_by_turns(rt: HostRuntime) -> Result<(), Fail> {
+    let expected = [0, 1, 2, 3, 4, 6, 7, 8, 12, 13, 14, 16];
+    let found = turns(rt.alloc(), &NARROW, MISPREDICTED.as_slice())?;
+    assert_eq!(rt; found.as_slice(), expected.as_slice());
+    let plain = plain_turns(rt.alloc(), &NARROW, MISPREDICTED.as_slice())?;
+    assert_eq!(rt; plain.as_slice(), expected.as_slice());
+    Ok(())
+}
+
+#[test]
+fn begins_anew(rt: HostRuntime) -> Result<(), Fail> {
+    if !is_trace(MISPREDICTED.as_slice(), 0) {
+        return Err(Fail::from("no such trace"));
+    }
+    let trace = SliceTrace {
+        items: MISPREDICTED.as_slice(),
+    };
+    let mut ruu = Ruu::new(rt.alloc(), &NARROW)?;
+    assert_eq!(rt; ruu.now(), None);
+    assert_eq!(rt; ruu.progress(), Progress::NONE);
+    assert!(rt; ruu.turn(&trace));
+    assert_eq!(rt; ruu.now(), Some(0));
+    assert!(rt; ruu.turn(&trace));
+    assert!(rt; ruu.turn(&trace));
+    assert_eq!(rt; ruu.now(), Some(2));
+    let expected = Progress {
+        fetched: 3,
+        dispatched: 3,
+        issued: 1,
+        retired: 0,
+    };
+    assert_eq!(rt; ruu.progress(), expected);
+    assert_eq!(rt; ruu.time(&trace, 0), 16);
+    assert_eq!(rt; ruu.now(), None);
+    assert!(rt; ruu.turn(&trace));
+    ruu.begin();
+    assert_eq!(rt; ruu.progress(), Progress::NONE);
+    assert!(rt; ruu.turn(&trace));
+    assert_eq!(rt; ruu.now(), Some(0));
+    Ok(())
+}
+
 #[test]
 fn times_each_instruction(rt: HostRuntime) -> Result<(), Fail> {
-    let items = [
-        Marked {
-            dest: Some(5),
-            ..ALU
-        },
-        Marked {
-            first: Some(5),
-            dest: Some(6),
-            latency: 3,
-            ..LOAD
-        },
-        Marked {
-            first: Some(6),
-            mispredicted: true,
-            transferred: true,
-            ..JUMP
-        },
-        Marked {
-            dest: Some(7),
-            stall: 2,
-            ..ALU
-        },
-    ];
+    let items = MISPREDICTED;
     let expected = [
         [12, 13, 14, 15, 16],
         [1, 2, 6, 7, 8],
@@ -237,6 +314,46 @@ fn times_each_instruction(rt: HostRuntime) -> Result<(), Fail> {
     }
     assert_eq!(rt; cycles(rt.alloc(), &NARROW, items.as_slice(), 0)?, 16);
     assert_eq!(rt; cycles(rt.alloc(), &NARROW, items.as_slice(), 2)?, 9);
+    Ok(())
+}
+
+/// A store, a load of its word that misses, and an instruction that waits for the load.
+const FORWARDED: [Marked; 3] = [
+    STORE,
+    Marked {
+        dest: Some(5),
+        latency: 12,
+        ..LOAD
+    },
+    Marked {
+        first: Some(5),
+        ..ALU
+    },
+];
+
+#[test]
+fn forwards_from_stores_under_way(rt: HostRuntime) -> Result<(), Fail> {
+    let mut items = FORWARDED;
+    // The load's dispatch is in the cycle of the store's retirement, and so too late.
+    for (stall, expected) in [
+        (0, [[0, 1, 2, 3, 4], [0, 1, 3, 4, 5], [1, 2, 4, 5, 6]]),
+        (2, [[0, 1, 2, 3, 4], [2, 3, 4, 5, 6], [2, 3, 5, 6, 7]]),
+        (3, [[0, 1, 2, 3, 4], [3, 4, 5, 17, 18], [3, 4, 17, 18, 19]]),
+        (
+            10,
+            [[0, 1, 2, 3, 4], [10, 11, 12, 24, 25], [10, 11, 24, 25, 26]],
+        ),
+    ] {
+        items[1].stall = stall;
+        for (i, times_of_one) in expected.iter().enumerate() {
+            assert_eq!(rt;
+                times(rt.alloc(), &NARROW, items.as_slice(), 3 - i)?,
+                *times_of_one
+            );
+        }
+        let last = expected[2][4];
+        assert_eq!(rt; cycles(rt.alloc(), &NARROW, items.as_slice(), 0)?, last);
+    }
     Ok(())
 }
 

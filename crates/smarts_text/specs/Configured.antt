@@ -75,6 +75,7 @@ widths_in prefix words = record {
   ruu = number_in prefix words Keys.ruu_key;
   lsq = number_in prefix words Keys.lsq_key;
   penalty = number_in prefix words Keys.penalty_key;
+  forward = number_in prefix words Keys.fwdlat_key;
   alus = number_in prefix words Keys.alus_key;
   muls = number_in prefix words Keys.muls_key;
   divs = number_in prefix words Keys.divs_key;

@@ -123,6 +123,9 @@ divlat_key = key (codes "divlat") groups.Timing (Number 1 64 20)
 abbrev pub l1lat_key : Key
 l1lat_key = key (codes "l1lat") groups.Timing (Number 1 16 2)
 
+abbrev pub fwdlat_key : Key
+fwdlat_key = key (codes "fwdlat") groups.Timing (Number 1 16 1)
+
 abbrev pub l2lat_key : Key
 l2lat_key = key (codes "l2lat") groups.Timing (Number 1 100 10)
 
@@ -138,7 +141,7 @@ size_key = key (codes "size") groups.Size (Number 1 1000000 1)
 
 unfoldable pub keys : List Key
 keys =
-    unit_key ∷ warm_key ∷ every_key ∷ offset_key ∷ seed_key ∷ budget_key ∷ min_key ∷ z_key ∷ error_key ∷ machine_key ∷ l1i_key ∷ l1d_key ∷ l2_key ∷ itlb_key ∷ dtlb_key ∷ predictor_key ∷ fetch_key ∷ dispatch_key ∷ issue_key ∷ retire_key ∷ queue_key ∷ ruu_key ∷ lsq_key ∷ penalty_key ∷ alus_key ∷ muls_key ∷ divs_key ∷ loads_key ∷ stores_key ∷ branches_key ∷ mullat_key ∷ divlat_key ∷ l1lat_key ∷ l2lat_key ∷ memlat_key ∷ tlblat_key ∷ size_key ∷ []
+    unit_key ∷ warm_key ∷ every_key ∷ offset_key ∷ seed_key ∷ budget_key ∷ min_key ∷ z_key ∷ error_key ∷ machine_key ∷ l1i_key ∷ l1d_key ∷ l2_key ∷ itlb_key ∷ dtlb_key ∷ predictor_key ∷ fetch_key ∷ dispatch_key ∷ issue_key ∷ retire_key ∷ queue_key ∷ ruu_key ∷ lsq_key ∷ penalty_key ∷ alus_key ∷ muls_key ∷ divs_key ∷ loads_key ∷ stores_key ∷ branches_key ∷ mullat_key ∷ divlat_key ∷ l1lat_key ∷ fwdlat_key ∷ l2lat_key ∷ memlat_key ∷ tlblat_key ∷ size_key ∷ []
 
 abbrev pub is_same : Group → Group → Bool
 is_same groups.Design groups.Design = true

@@ -123,6 +123,7 @@ fn widths(words: &[String], prefix: &str) -> Widths
         ruu: number(words, prefix, &keys::RUU) as u32,
         lsq: number(words, prefix, &keys::LSQ) as u32,
         penalty: number(words, prefix, &keys::PENALTY) as u32,
+        forward: number(words, prefix, &keys::FWDLAT) as u32,
         alus: number(words, prefix, &keys::ALUS) as u32,
         muls: number(words, prefix, &keys::MULS) as u32,
         divs: number(words, prefix, &keys::DIVS) as u32,

@@ -38,6 +38,7 @@ sample   measures units of the run until their mean is known well enough; writes
     mullat=N         cycles of a multiplication, 1 to 16 (3)
     divlat=N         cycles of a division, 1 to 64 (20)
     l1lat=N          cycles of a load, 1 to 16 (2)
+    fwdlat=N         cycles of a load whose word a store under way holds, 1 to 16 (1)
     l2lat=N          more where only the second cache hits, 1 to 100 (10)
     memlat=N         more where no cache hits, 1 to 1000 (100)
     tlblat=N         more where the TLB misses, 0 to 200 (30)

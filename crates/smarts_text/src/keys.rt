@@ -133,6 +133,8 @@ pub const DIVLAT: Key = key!("divlat", Timing, Form::Number(1, 64, 20));
 
 pub const L1LAT: Key = key!("l1lat", Timing, Form::Number(1, 16, 2));
 
+pub const FWDLAT: Key = key!("fwdlat", Timing, Form::Number(1, 16, 1));
+
 pub const L2LAT: Key = key!("l2lat", Timing, Form::Number(1, 100, 10));
 
 pub const MEMLAT: Key = key!("memlat", Timing, Form::Number(1, 1000, 100));
@@ -149,7 +151,7 @@ pub fn keys() -> &'static [Key]
     &[
         UNIT, WARM, EVERY, OFFSET, SEED, BUDGET, MIN, Z, ERROR, MACHINE, L1I, L1D, L2, ITLB, DTLB,
         PREDICTOR, FETCH, DISPATCH, ISSUE, RETIRE, QUEUE, RUU, LSQ, PENALTY, ALUS, MULS, DIVS,
-        LOADS, STORES, BRANCHES, MULLAT, DIVLAT, L1LAT, L2LAT, MEMLAT, TLBLAT, SIZE,
+        LOADS, STORES, BRANCHES, MULLAT, DIVLAT, L1LAT, FWDLAT, L2LAT, MEMLAT, TLBLAT, SIZE,
     ]
 }
 

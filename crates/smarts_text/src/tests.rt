@@ -219,11 +219,11 @@ const LEAST_WORDS: &str =
     "sample unit=16 warm=0 every=1 offset=0 seed=0 budget=1 min=2 z=1 error=1 machine=scalar \
     l1i=16:1:1 l1d=32:2:1 l2=64:4:1 itlb=8:1 dtlb=16:1 predictor=bimodal:4:2:0 fetch=1 \
     dispatch=1 issue=1 retire=1 queue=1 ruu=4 lsq=2 penalty=1 alus=1 muls=1 divs=1 loads=1 \
-    stores=1 branches=1 mullat=1 divlat=1 l1lat=1 l2lat=1 memlat=1 tlblat=0";
+    stores=1 branches=1 mullat=1 divlat=1 l1lat=1 fwdlat=1 l2lat=1 memlat=1 tlblat=0";
 
 /// Every key of `sample` with the greatest value that it takes, in another order.
 const MOST_WORDS: &str =
-    "sample tlblat=200 memlat=1000 l2lat=100 l1lat=16 divlat=64 mullat=16 branches=7 stores=6 \
+    "sample tlblat=200 memlat=1000 l2lat=100 fwdlat=16 l1lat=16 divlat=64 mullat=16 branches=7 stores=6 \
     loads=5 divs=4 muls=3 alus=2 penalty=64 lsq=128 ruu=256 queue=32 retire=8 issue=7 dispatch=6 \
     fetch=5 predictor=gshare:14:10:16 dtlb=4096:16 itlb=2048:15 l2=256:1024:14 l1d=128:512:13 \
     l1i=16:256:12 machine=ruu error=5000 z=4000 min=65536 budget=68719476736 \

@@ -13,7 +13,7 @@ use Rattle.hierarchy.specs.State.{mark_of, after_event}
 use Rattle.hierarchy.specs.Trace.{marks}
 use Rattle.hierarchy.specs.Widths.{AreLatencies}
 use Rattle.hierarchy.proofs.TraceLemmas.{length-marks}
-use Rattle.ruu_timing.proofs.Scalars.{scalar_within}
+use Rattle.ruu_timing.proofs.ScalarLemmas.{scalar_within}
 use Rattle.ruu_timing.specs.Scalar.{scalar_latency, scalar_cycles}
 use Rattle.rv_exec.specs.declared.event.Event.{Event}
 use Rattle.sample_design.specs.declared.units.Window.{Window}

@@ -99,7 +99,7 @@ pub(crate) fn has_slot(w: &Widths, earlier: &[Timed], class: Class, t: u64) -> b
 }
 
 /// The first cycle from `ready` on in which an instruction of a class can issue.
-#[tactic(auto, using(crate::proofs::Bounds::last_small))]
+#[tactic(auto, using(crate::proofs::TimedLemmas::last_small))]
 pub(crate) fn first_slot(w: &Widths, earlier: &[Timed], class: Class, ready: u64) -> u64
     requires widths { AreWidths w.now }
     requires timed { AreTimed (reverse earlier.now) }

@@ -3,7 +3,7 @@ ghost use Rattle.std.specs.List.{find, slice_get};
 ghost use Rattle.hierarchy.specs.Widths.{AreWidths};
 ghost use Rattle.hierarchy.specs.Marked.{IsMarked};
 ghost use Rattle.ruu_timing.specs.Timed.{IsWithin, AreTimed};
-ghost use Rattle.ruu_timing.specs.Times.{back, time_of, next_fetch, fetch_of, dispatch_of, memory_ones, writes, stores_to, register_time, word_time, ready_of, issue_of, retirement_of, timed_of, times};
+ghost use Rattle.ruu_timing.specs.Times.{back, time_of, next_fetch, fetch_of, dispatch_of, memory_ones, writes, stores_to, source_of, register_time, ready_of, elapse_of, issue_of, retirement_of, timed_of, times};
 
 use crate::class::{accesses_memory, is_ecall, is_load};
 use crate::tests::earlier::{access_before, back, first_slot, last_store, last_writer};
@@ -23,7 +23,7 @@ fn next_fetch(w: &Widths, x: &Timed) -> u64
     requires widths { AreWidths w.now }
     requires small { (x.now.fetch ≤ 2 ^ 41) × (x.now.completion ≤ 2 ^ 41) × (x.now.retirement ≤ 2 ^ 41) }
     ensures value { result ≡ next_fetch w.now x.now }
-    ensures bound { IsWithin (2 ^ 32) x.now → result ≤ 2 ^ 33 }
+    ensures bound { IsWithin (2 ^ 29) x.now → result ≤ 2 ^ 33 }
 {
     let after_fetch = if x.mark.transferred {
         x.fetch + 1
@@ -80,7 +80,7 @@ impl Rows {
     pub(crate) fn back(&self, k: usize) -> Option<&Timed>
         requires { 1 ≤ k }
         ensures value { option_copied result ≡ back self.now k }
-        ensures within { IfSome result (λ x. IsWithin (2 ^ 32) x.now) }
+        ensures within { IfSome result (λ x. IsWithin (2 ^ 29) x.now) }
         ensures timed { AreTimed self.now }
     {
         back(&self.timed, k)
@@ -130,7 +130,7 @@ impl Rows {
 
     fn access_before(&self, n: usize) -> Option<&Timed>
         ensures value { option_copied result ≡ slice_get (memory_ones self.now) n }
-        ensures within { IfSome result (λ x. IsWithin (2 ^ 32) x.now) }
+        ensures within { IfSome result (λ x. IsWithin (2 ^ 29) x.now) }
     {
         access_before(&self.timed, n)
     }
@@ -174,14 +174,14 @@ impl Rows {
 
     fn last_writer(&self, register: u8) -> Option<&Timed>
         ensures value { option_copied result ≡ find (λ x. writes register x) self.now }
-        ensures within { IfSome result (λ x. IsWithin (2 ^ 32) x.now) }
+        ensures within { IfSome result (λ x. IsWithin (2 ^ 29) x.now) }
     {
         last_writer(&self.timed, register)
     }
 
     fn last_store(&self, word: u32) -> Option<&Timed>
         ensures value { option_copied result ≡ find (λ x. stores_to word x) self.now }
-        ensures within { IfSome result (λ x. IsWithin (2 ^ 32) x.now) }
+        ensures within { IfSome result (λ x. IsWithin (2 ^ 29) x.now) }
     {
         last_store(&self.timed, word)
     }
@@ -197,15 +197,15 @@ impl Rows {
         }
     }
 
-    fn word_time(&self, word: Option<u32>) -> u64
-        ensures value { result ≡ word_time self.now word }
-        ensures bound { result ≤ 2 ^ 33 }
+    /// The store that a load reads from.
+    fn source_of(&self, mark: &Marked) -> Option<&Timed>
+        ensures value { option_copied result ≡ source_of self.now mark.now }
+        ensures within { IfSome result (λ x. IsWithin (2 ^ 29) x.now) }
     {
-        let Some(word) = word else { return 0 };
-        match self.last_store(word) {
-            Some(x) => x.completion,
-            None => 0,
+        if !is_load(mark.class) {
+            return None;
         }
+        self.last_store(mark.word?)
     }
 
     #[tactic(auto, unfolding(crate::specs::Times::ready_of))]
@@ -214,15 +214,32 @@ impl Rows {
         ensures value { result ≡ ready_of self.now mark.now dispatch }
         ensures bound { result ≤ 2 ^ 36 }
     {
-        let memory = if is_load(mark.class) {
-            self.word_time(mark.word)
-        } else {
-            0
+        let memory = match self.source_of(mark) {
+            Some(store) => store.completion,
+            None => 0,
         };
         let registers = self
             .register_time(mark.first)
             .max(self.register_time(mark.second));
         (dispatch + 1).max(memory).max(registers)
+    }
+
+    #[tactic(auto, unfolding(crate::specs::Times::elapse_of))]
+    fn elapse_of(&self, w: &Widths, mark: &Marked, dispatch: u64) -> u64
+        requires widths { AreWidths w.now }
+        requires mark { IsMarked mark.now }
+        ensures value { result ≡ elapse_of w.now self.now mark.now dispatch }
+        ensures bound { result ≤ 2 ^ 12 }
+    {
+        let retirement = match self.source_of(mark) {
+            Some(store) => store.retirement,
+            None => 0,
+        };
+        u64::from(if dispatch < retirement {
+            w.forward
+        } else {
+            mark.latency
+        })
     }
 
     #[tactic(auto, unfolding(crate::specs::Times::retirement_of))]
@@ -257,7 +274,7 @@ impl Rows {
         let fetch = self.fetch_of(w, &mark);
         let dispatch = self.dispatch_of(w, &mark, fetch);
         let issue = self.issue_of(w, mark.class, self.ready_of(&mark, dispatch));
-        let completion = issue + u64::from(mark.latency);
+        let completion = issue + self.elapse_of(w, &mark, dispatch);
         Timed {
             mark,
             fetch,

@@ -151,7 +151,7 @@ const DISPATCH: [Case; 6] = [
 ];
 
 /// What an instruction waits for: its registers, and for a load the word that it reads.
-const OPERANDS: [Case; 6] = [
+const OPERANDS: [Case; 7] = [
     // First register.
     (
         WIDTHS,
@@ -202,8 +202,28 @@ const OPERANDS: [Case; 6] = [
             LOAD,
         ],
         0,
-        [0, 1, 11, 13, 14],
-        14,
+        [0, 1, 11, 12, 13],
+        13,
+    ),
+    // The latency of a forwarded word is that of no cache.
+    (
+        Widths {
+            forward: 3,
+            ..WIDTHS
+        },
+        &[
+            Marked {
+                latency: 9,
+                ..STORE
+            },
+            Marked {
+                latency: 500,
+                ..LOAD
+            },
+        ],
+        0,
+        [0, 1, 11, 14, 15],
+        15,
     ),
     // The last store to the word.
     (
@@ -220,7 +240,7 @@ const OPERANDS: [Case; 6] = [
             LOAD,
         ],
         0,
-        [0, 1, 5, 7, 12],
+        [0, 1, 5, 6, 12],
         12,
     ),
     // Another word.
@@ -355,8 +375,8 @@ const WHOLE: [Case; 4] = [
             ALU,
         ],
         4,
-        [95, 96, 97, 98, 99],
-        50,
+        [93, 94, 95, 96, 97],
+        49,
     ),
     // Each waits for the one before, at the longest latency, in a full unit.
     (

@@ -1,7 +1,7 @@
 use Rattle.std.proofs.Common.{◌≡◌, ◌+◌, ◌-◌, ◌*◌, ◌≤◌, List, length, arith}
 use Rattle.hierarchy.specs.declared.marked.Marked.{Marked}
 use Rattle.ruu_timing.specs.Scalar.{scalar_cycles, scalar_latency}
-use Rattle.ruu_timing.proofs.Scalars.{one_fewer, none_left, scalar_within}
+use Rattle.ruu_timing.proofs.ScalarLemmas.{one_fewer, none_left, scalar_within}
 use Rattle.ruu_timing.proofs.scalar.scalar_time.Goals as goal
 
 pub loop-i-preserved : goal.loop-i-preserved

@@ -1,6 +1,6 @@
 use Rattle.std.proofs.Common.{◌≡◌, ◌+◌, ◌≤◌, ◌∙◌, false, sym, reverse, arith}
 use Rattle.ruu_timing.specs.Times.{has_slot}
-use Rattle.ruu_timing.proofs.Slots.{free_of, none_more, before_free, issue_found}
+use Rattle.ruu_timing.proofs.LawsLemmas.{free_of, none_more, before_free, issue_found}
 use Rattle.ruu_timing.proofs.tests.earlier.first_slot.Goals as goal
 
 pub wait-preserved : goal.wait-preserved

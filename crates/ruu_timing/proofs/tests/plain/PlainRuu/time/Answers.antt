@@ -2,7 +2,7 @@ use Rattle.std.proofs.Common.{◌≡◌, ◌+◌, ◌-◌, ◌<◌, List, length
 use Rattle.hierarchy.specs.declared.marked.Marked.{Marked}
 use Rattle.ruu_timing.specs.declared.timed.Timed.{Timed}
 use Rattle.ruu_timing.specs.Times.{cycles}
-use Rattle.ruu_timing.proofs.Totals.{length_times, total_known, total_least, total_most}
+use Rattle.ruu_timing.proofs.TimesLemmas.{length_times, total_known, total_least, total_most}
 use Rattle.ruu_timing.proofs.tests.plain.PlainRuu.time.Goals as goal
 
 pub overflow_sub-result : goal.overflow_sub-result

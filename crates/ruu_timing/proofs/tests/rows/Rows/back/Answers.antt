@@ -1,6 +1,6 @@
 use Rattle.std.proofs.Common.{◌-◌, reverse}
 use Rattle.ruu_timing.specs.Timed.{AreTimed}
-use Rattle.ruu_timing.proofs.Bounds.{small_back, lent_small}
+use Rattle.ruu_timing.proofs.TimedLemmas.{small_back, lent_small}
 use Rattle.ruu_timing.proofs.tests.rows.Rows.back.Goals as goal
 
 pub returns-clause-within : goal.returns-clause-within

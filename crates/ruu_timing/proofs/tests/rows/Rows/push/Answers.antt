@@ -3,7 +3,7 @@ use Rattle.std.proofs.lemmas.List.{reverse-append}
 use Rattle.ruu_timing.specs.declared.timed.Timed.{Timed}
 use Rattle.ruu_timing.specs.Timed.{AreTimed}
 use Rattle.ruu_timing.specs.Times.{timed_of}
-use Rattle.ruu_timing.proofs.Nexts.{next_timed}
+use Rattle.ruu_timing.proofs.TimedLemmas.{next_timed}
 use Rattle.ruu_timing.proofs.tests.rows.Rows.push.Goals as goal
 
 pub invariant_of-self : goal.invariant_of-self

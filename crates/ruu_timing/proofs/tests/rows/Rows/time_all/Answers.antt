@@ -1,7 +1,7 @@
 use Rattle.std.proofs.Common.{◌≡◌, List, length, arith}
 use Rattle.hierarchy.specs.declared.marked.Marked.{Marked}
 use Rattle.ruu_timing.specs.Times.{timed_after}
-use Rattle.ruu_timing.proofs.Totals.{times_more, marked_at, few_times, whole_times}
+use Rattle.ruu_timing.proofs.TimesLemmas.{times_more, marked_at, few_times, whole_times}
 use Rattle.ruu_timing.proofs.tests.rows.Rows.time_all.Goals as goal
 
 pub loop-i-init : goal.loop-i-init
