@@ -1,2 +1,5 @@
 pub mod FollowLemmas
 pub mod WordsLemmas
+pub mod MemoryLemmas
+pub mod LiveWordsLemmas
+pub mod CollectorLemmas

@@ -1,2 +1,6 @@
 pub mod Follow
 pub mod Words
+pub mod Collector
+pub mod CollectorView
+pub mod LiveWords
+pub mod Laws
