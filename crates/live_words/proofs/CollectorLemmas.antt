@@ -12,14 +12,13 @@ use Rattle.indexmap.proofs.CallerLemmas.{insert_entry-new}
 use Rattle.std.specs.FinMap.{find}
 use Rattle.std.specs.Map.{lookup}
 use Rattle.std.specs.Ordering.{nat_cmp}
-use Rattle.std.specs.Cmp.{nat_cmp_total, unsigned_tied}
-use Rattle.std.proofs.lemmas.Bool.{eqb-true, eq-eqb, lt-ltb, false≢true}
+use Rattle.std.proofs.lemmas.Bool.{eqb-true, eq-eqb, and_parts, lt-ltb, false≢true}
 use Rattle.rv_exec.specs.Memory.{Words, word_at, stored}
 use Rattle.rv_exec.proofs.MemoryLemmas.{find_first, word_at-stored}
 use Rattle.live_words.specs.Collector.{with_first, IsWord}
 use Rattle.live_words.specs.Follow.{last_of}
-use Rattle.live_words.specs.Words.{rises, IsPair, AreWords, memory_of, pairs_of}
-use Rattle.live_words.proofs.FollowLemmas.{follow_by}
+use Rattle.live_words.specs.Words.{is_above, rises, IsPair, AreWords, memory_of, pairs_of}
+use Rattle.live_words.proofs.FollowLemmas.{follow_at, follow_by}
 use Rattle.live_words.proofs.WordsLemmas.{last_taken}
 use Rattle.live_words.proofs.MemoryLemmas.{held_first, same_words, addr_at, Rise, words_are_held}
 
@@ -80,10 +79,10 @@ pub with_first_more :
 with_first_more pairs addr value =
     same_words _ _
     (λ q.
-      with_first_at (memory_of pairs) addr value q (word_at (memory_of pairs) addr) refl
-      ∙ ap (λ (o : Option ℕ). cond (is_some o) o (if q == addr then Some value else None)) (held_first pairs q)
-      ∙ sym (found_more pairs (addr, value) q)
-      ∙ sym (held_first (pairs ++ (addr, value) ∷ []) q))
+    with_first_at (memory_of pairs) addr value q (word_at (memory_of pairs) addr) refl
+    ∙ ap (λ (o : Option ℕ). cond (is_some o) o (if q == addr then Some value else None)) (held_first pairs q)
+    ∙ sym (found_more pairs (addr, value) q)
+    ∙ sym (held_first (pairs ++ (addr, value) ∷ []) q))
 
 -- a word that wasn't found before
 pub touched_new :
@@ -114,12 +113,20 @@ inserted m addr value entries absent is = is ∙ insert_entry-new nat_eq m addr 
 
 -- ---- sorted
 
+pub all_words : (pairs : List (ℕ × ℕ)) → AreWords pairs → All IsWord pairs
+all_words pairs words i d h =
+    let pair : ℕ × ℕ = slice_index_or pairs i d in
+    let stands : IsPair rises (take i pairs) pair = follow_at (IsPair rises) [] pairs i d words h in
+    let tests : ((pair.0 % 4 == 0) ≡ true) × (is_above (last_of (take i pairs)) pair.0 ≡ true) =
+    and_parts (pair.0 % 4 == 0) (is_above (last_of (take i pairs)) pair.0) stands.passes in
+    record { addr = stands.addr; value = stands.value; aligned = eqb-true (pair.0 % 4) 0 tests.0 }
+
 pub rising_words : (pairs : List (ℕ × ℕ)) → All IsWord pairs → Rise pairs → AreWords pairs
 rising_words pairs words rise =
     follow_by (IsPair rises) [] pairs (0, 0)
     (λ i h.
-      let word : IsWord (slice_index_or pairs i (0, 0)) = words i (0, 0) h in
-      record { addr = word.addr; value = word.value; passes = rises_at pairs rise i h word.aligned })
+    let word : IsWord (slice_index_or pairs i (0, 0)) = words i (0, 0) h in
+    record { addr = word.addr; value = word.value; passes = rises_at pairs rise i h word.aligned })
   where
     rises_at :
         (pairs : List (ℕ × ℕ)) → Rise pairs → (i : ℕ) → i < length pairs → addr_at pairs i % 4 ≡ 0
@@ -144,8 +151,8 @@ sorted_words entries words sorted distinct =
     let len : length keys ≡ length entries = length-map entries (λ (e : ℕ × ℕ). e.0) in
     rising_words entries words
     (λ i h.
-      let rise : get_or keys i 0 < get_or keys (i + 1) 0 = strict i (omega arith) in
-      rw (key_at i (omega arith), key_at (i + 1) h) at rise)
+    let rise : get_or keys i 0 < get_or keys (i + 1) 0 = strict i (omega arith) in
+    rw (key_at i (omega arith), key_at (i + 1) h) at rise)
 
 pub sorted_same :
     (pairs entries : List (ℕ × ℕ)) → AreWords entries
@@ -156,7 +163,7 @@ sorted_same pairs entries words same =
     ∙ ap (λ (m : Words). pairs_of m)
     (same_words (memory_of entries) (memory_of pairs)
     (λ addr.
-      held_first entries addr ∙ sym (looked_up addr entries) ∙ same addr ∙ looked_up addr pairs ∙ sym (held_first pairs addr)))
+    held_first entries addr ∙ sym (looked_up addr entries) ∙ same addr ∙ looked_up addr pairs ∙ sym (held_first pairs addr)))
 
 -- the words with one more
 pub all_found :

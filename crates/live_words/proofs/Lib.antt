@@ -3,3 +3,4 @@ pub mod WordsLemmas
 pub mod MemoryLemmas
 pub mod LiveWordsLemmas
 pub mod CollectorLemmas
+pub mod PackedLemmas

@@ -1,10 +1,8 @@
 -- The words that a run touches.
-use Rattle.std.proofs.Common.{◌≡◌, ℕ, List, Bool, true, false, cond, Option, Some, None, IsSome, refl, sym, ap, ◌∙◌}
+use Rattle.std.proofs.Common.{◌≡◌, ℕ, List, cond, Option, Some, None, IsSome, refl, sym, ap, ◌∙◌}
 use Rattle.std.specs.Prelude.{is_some}
 use Rattle.std.specs.FinMap as map
-use Rattle.std.specs.Ordering.{nat_cmp}
 use Rattle.rv_exec.specs.declared.event.Event.{Event}
-use Rattle.rv_exec.specs.Machine.{State}
 use Rattle.rv_exec.specs.Memory.{Words, word_at}
 use Rattle.rv_exec.specs.References.{words_found, first_found}
 use Rattle.rv_exec.specs.Runs.{run_of}
@@ -31,7 +29,7 @@ pub live_words_suffice : LiveWordsSuffice
 live_words_suffice m n whole =
     runs_again m n (live_words m.words (run_of m n).events) whole
     (λ addr touched.
-      live_at m.words (run_of m n).events addr ∙ touched_at (first_found (run_of m n).events addr) _ touched)
+    live_at m.words (run_of m n).events addr ∙ touched_at (first_found (run_of m n).events addr) _ touched)
 
 found_is :
     (found held : Option ℕ) → ((value : ℕ) → found ≡ Some value → held ≡ Some value)
@@ -45,6 +43,6 @@ first_values_are_start m n =
     let events : List Event = (run_of m n).events in
     same_words (first_values events) (live_words m.words events)
     (λ addr.
-      held_first (words_found events) addr
-      ∙ found_is (first_found events addr) (word_at m.words addr) (λ value is. first_found_is_start m n addr value is)
-      ∙ sym (live_at m.words events addr))
+    held_first (words_found events) addr
+    ∙ found_is (first_found events addr) (word_at m.words addr) (λ value is. first_found_is_start m n addr value is)
+    ∙ sym (live_at m.words events addr))

@@ -1,6 +1,6 @@
 -- Memories that hold the words of lists.
-use Rattle.std.proofs.Common.{◌≡◌, ◌<◌, ◌≤◌, ℕ, zero, suc, ◌+◌, List, [], ◌∷◌, ◌++◌, length, take, Bool, true, false, T, cond, Option, Some, None, refl, sym, ap, ◌∙◌, arith, inl, inr, add-one, subst}
-use Rattle.std.specs.Prelude.{slice_index_or, ◌==◌, ◌&&◌, nat_lt, is_some, if◌then◌else◌}
+use Rattle.std.proofs.Common.{◌≡◌, ◌<◌, ℕ, suc, ◌+◌, List, [], ◌∷◌, length, take, Bool, true, false, T, Option, Some, sym, ap, ◌∙◌, arith, subst}
+use Rattle.std.specs.Prelude.{slice_index_or, ◌&&◌}
 use Rattle.std.specs.FinMap as map
 use Rattle.std.specs.FinMap.{find, is_sorted}
 use Rattle.std.specs.FinMap.Entries.{below_all}
@@ -9,9 +9,8 @@ use Rattle.std.specs.declared.cmp.Ordering.{Ordering}
 use Rattle.std.specs.declared.cmp.Ordering.TheVariants.{Less}
 use Rattle.std.specs.Cmp.{nat_cmp_total, nat_cmp_is}
 use Rattle.std.proofs.lemmas.Bool.{ltb-true, and_parts}
-use Rattle.rv_exec.specs.Memory.{Words, word_at, stored}
-use Rattle.rv_exec.proofs.MemoryLemmas.{find_first, word_at-stored}
-use Rattle.live_words.specs.Follow.{last_of, Follow}
+use Rattle.rv_exec.specs.Memory.{Words, word_at}
+use Rattle.live_words.specs.Follow.{last_of}
 use Rattle.live_words.specs.Words.{is_above, rises, IsPair, AreWords, memory_of, pairs_of}
 use Rattle.live_words.specs.Laws.{WordsAreHeld}
 use Rattle.live_words.proofs.FollowLemmas.{follow_at}
@@ -42,7 +41,7 @@ both : (a b : Bool) → T a → T b → T (a && b)
 both true b p q = q
 both false b p q = p
 
-rise_behind : (p : ℕ × ℕ) (pairs : List (ℕ × ℕ)) → Rise (p ∷ pairs) → Rise pairs
+pub rise_behind : (p : ℕ × ℕ) (pairs : List (ℕ × ℕ)) → Rise (p ∷ pairs) → Rise pairs
 rise_behind p pairs rise i h =
     let later : suc i + 1 ≡ suc (i + 1) = omega arith in
     rw later at (rise (suc i) (omega arith))
@@ -55,9 +54,9 @@ below_by low (p ∷ pairs) rise first =
     both (is_lt (nat_cmp low p.0)) (below_all nat_cmp low pairs) (is_less low p.0 (first (omega arith)))
     (below_by low pairs (rise_behind p pairs rise)
     (λ h.
-      let before : low < p.0 = first (omega arith) in
-      let next : p.0 < addr_at pairs 0 = rise 0 (omega arith) in
-      omega arith))
+    let before : low < p.0 = first (omega arith) in
+    let next : p.0 < addr_at pairs 0 = rise 0 (omega arith) in
+    omega arith))
 
 pub sorted_by : (pairs : List (ℕ × ℕ)) → Rise pairs → T (is_sorted nat_cmp pairs)
 sorted_by [] rise = tt

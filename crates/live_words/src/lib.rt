@@ -2,9 +2,14 @@
 #![tactic(auto)]
 
 mod collector;
+mod held;
 mod laws;
+mod packed;
+mod partial;
 mod words;
 
 pub use collector::Collector;
+pub use held::Held;
 pub use laws::word_laws;
+pub use partial::Partial;
 pub use words::{BadPair, Words};

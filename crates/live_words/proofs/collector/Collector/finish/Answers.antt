@@ -1,8 +1,8 @@
-use Rattle.std.proofs.Common.{sym, ◌∙◌, ◌≡◌, ap, ℕ, List}
+use Rattle.std.proofs.Common.{◌∙◌, ap}
 use Rattle.std.proofs.lemmas.List.Sorted.{All-permutation}
 use Rattle.rv_exec.specs.Memory.{Words}
 use Rattle.live_words.specs.Collector.{IsWord}
-use Rattle.live_words.specs.Words.{AreWords, pairs_of}
+use Rattle.live_words.specs.Words.{pairs_of}
 use Rattle.live_words.proofs.CollectorLemmas.{sorted_words, sorted_same}
 use Rattle.live_words.proofs.collector.Collector.finish.Goals as goal
 

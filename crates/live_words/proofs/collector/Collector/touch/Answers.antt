@@ -1,4 +1,4 @@
-use Rattle.std.proofs.Common.{sym, ◌∙◌, ◌≡◌, ap, ◌++◌, ◌∷◌, [], ℕ, List, length, arith}
+use Rattle.std.proofs.Common.{sym, ◌∙◌, ap, arith}
 use Rattle.rv_exec.specs.Memory.{Words}
 use Rattle.live_words.specs.Collector.{with_first}
 use Rattle.live_words.proofs.CollectorLemmas.{touched_new, touched_again, with_first_more, inserted, all_found}
