@@ -1,1 +1,3 @@
 pub mod KindsLemmas
+pub mod RunLemmas
+pub mod PointLemmas

@@ -1,2 +1,6 @@
 pub mod Kinds
 pub mod KindsView
+pub mod Beyond
+pub mod Points
+pub mod PointAnswers
+pub mod Laws

@@ -84,3 +84,9 @@ sorted_held pairs sorted =
 
 pub words_are_held : WordsAreHeld
 words_are_held pairs words = sorted_held pairs (sorted_by pairs (words_rising pairs words))
+
+-- and the memory that holds the words of another is that one
+pub pairs_held : (words : Words) → memory_of (pairs_of words) ≡ words
+pairs_held words =
+    same_words (memory_of (pairs_of words)) words
+    (λ addr. held_first (pairs_of words) addr ∙ sym (map.get-entries words addr))
