@@ -73,6 +73,13 @@ with_first_at words addr value q (Some held) is =
     kept_first (word_at words q) (q == addr) value
     (λ same. rw (ap (word_at words) (eqb-true q addr same) ∙ is) refl)
 
+-- what is held after one that was found
+pub first_at :
+    (words : Words) (addr value q : ℕ)
+    → word_at (with_first words addr value) q
+    ≡ cond (is_some (word_at words q)) (word_at words q) (if q == addr then Some value else None)
+first_at words addr value q = with_first_at words addr value q (word_at words addr) refl
+
 pub with_first_more :
     (pairs : List (ℕ × ℕ)) (addr value : ℕ)
     → with_first (memory_of pairs) addr value ≡ memory_of (pairs ++ (addr, value) ∷ [])

@@ -4,3 +4,4 @@ pub mod MemoryLemmas
 pub mod LiveWordsLemmas
 pub mod CollectorLemmas
 pub mod PackedLemmas
+pub mod WindowsLemmas

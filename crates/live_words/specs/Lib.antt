@@ -5,4 +5,7 @@ pub mod CollectorView
 pub mod LiveWords
 pub mod Packed
 pub mod Partial
+pub mod Windows
+pub mod WindowsView
+pub mod WindowsCode
 pub mod Laws

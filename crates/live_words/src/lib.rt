@@ -6,10 +6,12 @@ mod held;
 mod laws;
 mod packed;
 mod partial;
+mod windows;
 mod words;
 
 pub use collector::Collector;
 pub use held::Held;
 pub use laws::word_laws;
 pub use partial::Partial;
+pub use windows::Windows;
 pub use words::{BadPair, Words};
