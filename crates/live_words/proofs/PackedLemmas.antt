@@ -1,12 +1,14 @@
 -- Pairs in numbers, by rising address.
 use Rattle.std.proofs.Common.{◌≡◌, ◌≢◌, ◌<◌, ◌≤◌, ◌+◌, ◌*◌, ◌/◌, ◌%◌, ◌^◌, ℕ, zero, suc, List, [], ◌∷◌, length, map, get_or, set, Bool, true, false, Option, Some, None, refl, sym, ap, ◌∙◌, arith, inl, inr, add-one, eq-eqb}
 use Rattle.std.specs.Prelude.{slice_index, slice_index_or, ◌==◌, if◌then◌else◌}
+use Rattle.std.specs.List.{All}
 use Rattle.std.specs.FinMap.{find}
 use Rattle.std.specs.Ordering.{nat_cmp}
 use Rattle.std.proofs.lemmas.Bool.{ne_eqb, eqb-true, cases_lt, cases_eq, cases_Bool}
 use Rattle.std.proofs.lemmas.List.{get_or-map, length-map, length-set, map-set, get_or-set_same, get_or-set_other}
 use Rattle.rv_exec.proofs.MemoryLemmas.{find_first, word_at-stored}
 use Rattle.rv_exec.specs.Memory.{word_at, stored}
+use Rattle.live_words.specs.Laws.{PackedAreHeld}
 use Rattle.live_words.specs.Packed.{packed_pair, pair_of, ArePacked, held_words}
 use Rattle.live_words.proofs.MemoryLemmas.{held_first, same_words, addr_at, Rise, rise_behind, words_rising}
 use Rattle.live_words.specs.Collector.{IsWord}
@@ -215,3 +217,22 @@ from_on packed i middle addr are h within above = elim (cases_lt middle i) [
       omega (arith, rise, above)
   | inr ge ↦ let same : i ≡ middle = omega arith in rw same above
 ]
+
+-- words that are packed, and unpacked again
+pub unpacked_all : (pairs : List (ℕ × ℕ)) → All IsWord pairs → map pair_of (map packed_pair pairs) ≡ pairs
+unpacked_all [] words = refl
+unpacked_all (p ∷ pairs) words =
+    let word : IsWord p = words 0 (0, 0) (omega arith) in
+    let here : pair_of (packed_pair p) ≡ p = unpacked p.0 p.1 word.value in
+    let rest : map pair_of (map packed_pair pairs) ≡ pairs =
+    unpacked_all pairs (λ k d h. words (suc k) d (omega arith)) in
+    λ i. here i ∷ rest i
+
+pub packed_words : (pairs : List (ℕ × ℕ)) → AreWords pairs → ArePacked (map packed_pair pairs)
+packed_words pairs words = rw (unpacked_all pairs (all_words pairs words)) words
+
+pub packed_are_held : PackedAreHeld
+packed_are_held pairs words = (
+  packed_words pairs words,
+  ap (λ (ps : List (ℕ × ℕ)). memory_of ps) (unpacked_all pairs (all_words pairs words)),
+)

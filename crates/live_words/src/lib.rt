@@ -6,6 +6,8 @@ mod held;
 mod laws;
 mod packed;
 mod partial;
+#[cfg(test)]
+mod tests;
 mod windows;
 mod words;
 

@@ -1,7 +1,7 @@
 ghost use Rattle.std.specs.Prelude.{◌≡◌, ◌+◌, ◌≤◌, length, map, is_some, if◌then◌else◌, IfSome};
 ghost use Rattle.std.specs.Option.{SomeIff};
 ghost use Rattle.desk_region.specs.Span.{Stretch, IsWithin, words_at};
-ghost use Rattle.live_words.specs.Packed.{packed_pair};
+ghost use Rattle.live_words.specs.Packed.{packed_pair, ArePacked};
 ghost use Rattle.live_words.specs.Partial.{with_more};
 
 use crate::packed::pack;
@@ -35,6 +35,7 @@ impl Partial {
         // It may be read and written, as all spans could that could before.
         ensures within { IfSome result (λ partial. IsWithin partial region.new.words) }
         ensures held { IfSome result (λ partial. words_at partial region.new.words ≡ map packed_pair words.now) }
+        ensures packed { IfSome result (λ partial. ArePacked (words_at partial region.new.words)) }
         ensures still { (other : Stretch) → IsWithin other region.old.words → IsWithin other region.new.words }
     {
         let span = region.carve(words.len())?;

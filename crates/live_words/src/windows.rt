@@ -1,4 +1,4 @@
-ghost use Rattle.std.specs.Prelude.{◌≡◌, ◌%◌, ◌^◌, ◌+◌, ◌<◌, [], length, IfOk, OnOk, OnErr, nat_eq, filter};
+ghost use Rattle.std.specs.Prelude.{◌≡◌, ◌%◌, ◌^◌, ◌+◌, ◌<◌, ◌≤◌, [], length, IfOk, OnOk, OnErr, nat_eq, filter};
 ghost use Rattle.std.specs.FinMap as finite;
 ghost use Rattle.live_words.specs.Windows.{window_at, with_touch, with_window};
 ghost use Rattle.live_words.specs.WindowsView.{covers, noted, word_of, words_in};
@@ -80,6 +80,21 @@ impl Windows {
             started: 0,
             ended: 0,
         }
+    }
+
+    /// How many windows have started.
+    pub fn started(&self) -> u32
+        ensures { result ≡ length self.now.windows }
+    {
+        self.started
+    }
+
+    /// How many windows have ended.
+    pub fn ended(&self) -> u32
+        ensures value { result ≡ self.now.ended }
+        ensures most { result ≤ length self.now.windows }
+    {
+        self.ended
     }
 
     /// Starts a window, which is numbered by those before it.
