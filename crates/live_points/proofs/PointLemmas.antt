@@ -130,7 +130,7 @@ trace_same l s m n words whole again =
     ∙ ap (λ (halt : Option Halt). unless_halted halt (marks l s (run_of m n).events)) (sym whole)
 
 -- the window of a unit that ends within the run
-window_ends : (design : Design) (unit length : ℕ) → EndsWithin design length unit
+pub window_ends : (design : Design) (unit length : ℕ) → EndsWithin design length unit
     → (window_of design unit).start + (window_of design unit).len ≤ length
 window_ends design unit length h = omega (arith, h)
 

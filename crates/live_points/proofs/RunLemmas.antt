@@ -1,5 +1,5 @@
 -- Parts of runs that go on.
-use Rattle.std.proofs.Common.{◌≡◌, ◌<◌, ◌≤◌, ℕ, zero, suc, ◌+◌, ◌-◌, List, [], ◌∷◌, Option, Some, None, refl, sym, ap, ◌∙◌, arith, add-one}
+use Rattle.std.proofs.Common.{◌≡◌, ◌<◌, ◌≤◌, ◌%◌, ℕ, zero, suc, ◌+◌, ◌-◌, List, [], ◌∷◌, Option, Some, None, refl, sym, ap, ◌∙◌, arith, add-one}
 use Rattle.std.specs.Option.{option_or}
 use Rattle.rv_exec.specs.declared.event.Event.{Event}
 use Rattle.rv_exec.specs.Machine.{State, Outcome}
@@ -7,7 +7,8 @@ use Rattle.rv_exec.specs.Next.{next}
 use Rattle.rv_exec.specs.Runs.{Halt, Run, run_of, joined, steps}
 use Rattle.rv_exec.proofs.RanLemmas.{Ran, ran_of}
 use Rattle.rv_exec.proofs.RunsLemmas.{runs_split, one_more}
-use Rattle.rv_exec.proofs.StepsLemmas.{stepped}
+use Rattle.rv_exec.proofs.StepsLemmas.{stepped, well_formed}
+use Rattle.rv_exec.specs.Event.{IsWellFormed}
 use Rattle.rv_machine.specs.Outcome.{Does, Reaches}
 use Rattle.rv_machine.proofs.OutcomeLemmas.{is_outcome}
 use Rattle.live_points.specs.Laws.{ExitsGoOn}
@@ -58,6 +59,15 @@ heap_stays s t (e ∷ es) (mid, did, rest) = heap_stays mid t es rest ∙ (stepp
 
 pub heap_of : (m : State) (n : ℕ) → (run_of m n).after.heap_low ≡ m.heap_low
 heap_of m n = heap_stays m (run_of m n).after (run_of m n).events (ran_of m n)
+
+pcs_stay : (s t : State) (es : List Event) → Ran s es t → s.pc % 4 ≡ 0 → t.pc % 4 ≡ 0
+pcs_stay s t [] ran at = ap (λ (x : State). x.pc % 4) ran ∙ at
+pcs_stay s t (e ∷ es) (mid, did, rest) at =
+    let formed : IsWellFormed e = well_formed s e mid did.went at in
+    pcs_stay mid t es rest (ap (λ pc. pc % 4) (stepped s e mid did.went).moves ∙ formed.next)
+
+pub pc_of : (m : State) (n : ℕ) → m.pc % 4 ≡ 0 → (run_of m n).after.pc % 4 ≡ 0
+pc_of m n at = pcs_stay m (run_of m n).after (run_of m n).events (ran_of m n) at
 
 -- ---- a run that exits
 

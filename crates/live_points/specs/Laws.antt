@@ -1,5 +1,5 @@
 -- Laws of live-points.
-use Rattle.std.specs.Prelude.{◌≡◌, ◌<◌, ℕ, None, map}
+use Rattle.std.specs.Prelude.{◌≡◌, ◌<◌, ◌%◌, ℕ, None, List, map}
 use Rattle.hierarchy.specs.declared.config.Config.{Config}
 use Rattle.rv_exec.specs.Machine.{State}
 use Rattle.rv_exec.specs.Runs.{run_of}
@@ -9,7 +9,9 @@ use Rattle.sample_design.specs.declared.design.Design.{Design}
 use Rattle.sample_design.specs.Units.{sampled_unit, EndsWithin}
 use Rattle.unit_answers.specs.Answers.{whole_answer, unit_answers}
 use Rattle.live_points.specs.declared.header.Header.{Header}
-use Rattle.live_points.specs.Points.{point_of, points_of}
+use Rattle.live_points.specs.declared.point.LivePoint.{LivePoint}
+use Rattle.live_points.specs.Sharing.{IsSharing}
+use Rattle.live_points.specs.Points.{point_of, points_of, IsPointOf}
 use Rattle.live_points.specs.PointAnswers.{point_answer}
 use Rattle.live_points.specs.Beyond.{IsWithin}
 
@@ -42,3 +44,14 @@ abbrev pub BudgetIsNothing : Type 0
 BudgetIsNothing =
     (config : Config) (start : State) (design : Design) (count budget : ℕ)
     → unit_answers config start (record design { budget = budget }) count ≡ unit_answers config start design count
+
+-- the point of a unit that ends within a run which goes on so far is one of its header
+abbrev pub PointsAreOfHeader : Type 0
+PointsAreOfHeader =
+    (start : State) (length : ℕ) (header : Header) (unit : ℕ) → (run_of start length).halt ≡ None
+    → start.pc % 4 ≡ 0 → EndsWithin header.design length unit → IsPointOf header (point_of header start unit)
+
+-- pairs are shared in one way
+abbrev pub SharingIsOne : Type 0
+SharingIsOne =
+    (points : List LivePoint) (one other : List (ℕ × ℕ)) → IsSharing points one → IsSharing points other → one ≡ other

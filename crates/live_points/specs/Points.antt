@@ -1,5 +1,5 @@
 -- The live-points of a run.
-use Rattle.std.specs.Prelude.{ℕ, List, map}
+use Rattle.std.specs.Prelude.{◌≡◌, ◌≤◌, ◌*◌, ◌%◌, ℕ, List, length, map}
 use Rattle.hierarchy.specs.declared.places.Places.{Places}
 use Rattle.live_words.specs.LiveWords.{live_words}
 use Rattle.live_words.specs.Words.{pairs_of}
@@ -54,3 +54,16 @@ point_of header start unit =
 unfoldable pub points_of : Header → State → ℕ → List LivePoint
 points_of header start count =
     map (λ p. point_of header start (sampled_unit header.design p)) (order_of count header.design.seed)
+
+-- what holds of each point of a header: its records have the header's shapes and its images the header's kinds, in
+-- their order; its pc is that of an instruction; and its words are those of addresses that so many instructions touch,
+-- at most two for each
+pub record IsPointOf (header : Header) (point : LivePoint) : Type 0 where
+  pub l1i : point.places.l1i.shape ≡ header.records.places.l1i
+  pub l1d : point.places.l1d.shape ≡ header.records.places.l1d
+  pub l2 : point.places.l2.shape ≡ header.records.places.l2
+  pub itlb : point.places.itlb.shape ≡ header.records.places.itlb
+  pub dtlb : point.places.dtlb.shape ≡ header.records.places.dtlb
+  pub kinds : map (λ image. image.kind) point.images ≡ header.records.kinds
+  pub pc : point.pc % 4 ≡ 0
+  pub words : length point.words ≤ 2 * (window_of header.design point.unit).len

@@ -81,7 +81,10 @@ fn loaded<M: Memory>(memory: &M) -> [Option<u32>; 4]
 fn holds_the_words_in_a_region(rt: HostRuntime) -> Result<(), Fail> {
     let words = words_of(rt.alloc(), &[(0, 5), (8, 6), (0xFFFF_FFFC, 7)])?;
     let mut small = Region::new(rt.alloc(), 2)?;
-    assert_eq!(rt; (Partial::new(&mut small, &words).is_none(), small.free()), (true, 2));
+    assert_eq!(rt;
+        (Partial::new(&mut small, &words).is_none(), small.free()),
+        (true, 2)
+    );
 
     let mut region = Region::new(rt.alloc(), 5)?;
     match Partial::new(&mut region, &words) {
@@ -93,7 +96,10 @@ fn holds_the_words_in_a_region(rt: HostRuntime) -> Result<(), Fail> {
             assert_eq!(rt; loaded(&memory), [Some(5), None, Some(6), Some(7)]);
             let stored = (memory.store_word(8, 0xFFFF_FFFF), memory.store_word(4, 1));
             assert_eq!(rt; stored, (true, false));
-            assert_eq!(rt; loaded(&memory), [Some(5), None, Some(0xFFFF_FFFF), Some(7)]);
+            assert_eq!(rt;
+                loaded(&memory),
+                [Some(5), None, Some(0xFFFF_FFFF), Some(7)]
+            );
             assert!(rt; memory.covers(3, 0xFFFF_FFFF));
         }
     }
