@@ -1,18 +1,20 @@
 -- Touches of many windows.
-use Rattle.std.proofs.Common.{◌≡◌, ◌≢◌, ◌<◌, ◌≤◌, ◌+◌, ◌^◌, max, ℕ, zero, suc, List, [], ◌∷◌, ◌++◌, length, map, filter, true, false, cond, Option, Some, None, refl, sym, ap, ◌∙◌, arith, inl, inr, length-append}
-use Rattle.std.specs.Prelude.{◌==◌, is_some, nat_lt, nat_le, nat_eq, if◌then◌else◌}
+use Rattle.std.proofs.Common.{◌≡◌, ◌≢◌, ◌<◌, ◌≤◌, ◌+◌, ◌^◌, max, ℕ, zero, suc, List, [], ◌∷◌, ◌++◌, length, map, filter, take, drop, true, false, cond, Option, Some, None, refl, sym, ap, ◌∙◌, arith, inl, inr, length-append, Bool}
+use Rattle.std.specs.List.{All}
+use Rattle.std.specs.Prelude.{slice_index_or, slice_index, ◌==◌, is_some, nat_lt, nat_le, nat_eq, if◌then◌else◌}
 use Rattle.std.specs.FinMap as finite
 use Rattle.std.specs.Cmp.{nat_cmp_total}
 use Rattle.std.specs.List.{range_with_len}
 use Rattle.std.proofs.lemmas.Bool.{le-leb, lt-leb, lt-ltb, le-ltb, and_right, cases_lt, cases_eq, ne_eqb, eq-eqb}
-use Rattle.std.proofs.lemmas.List.{map-append, append-nil}
+use Rattle.std.proofs.lemmas.List.{map-append, append-nil, take-append-drop, take-append-le, take_all, get_or_append_left}
 use Rattle.std.proofs.lemmas.List.Elements.{filter-append, All-push}
 use Rattle.std.proofs.lemmas.List.FromFn.{length-map-range_with_len, get_or-map-range_with_len, map-range_with_len_more}
+use Rattle.std.proofs.Math.Seq.{get_or-append_seam}
 use Rattle.rv_exec.specs.Memory.{Words, word_at, stored}
 use Rattle.live_words.specs.declared.windows.Touch.{Touch}
 use Rattle.live_words.specs.Collector.{with_first, IsWord}
 use Rattle.live_words.specs.Windows.{WindowsValue, window_at, window_after, with_touch, with_window}
-use Rattle.live_words.specs.WindowsView.{word_of, covers, words_in, noted, AreNoted}
+use Rattle.live_words.specs.WindowsView.{word_of, covers, words_in, noted, AreNoted, AreBegun}
 use Rattle.indexmap.specs.IndexMap.{IndexMap, get}
 use Rattle.live_words.specs.Words.{memory_of}
 use Rattle.live_words.proofs.CollectorLemmas.{first_at, with_first_more}
@@ -107,6 +109,12 @@ view touches ended started = record { windows = map (words_in touches) (range_wi
 pub windows_len : (touches : List Touch) (started : ℕ) → length (map (words_in touches) (range_with_len 0 started)) ≡ started
 windows_len touches started = length-map-range_with_len (words_in touches) 0 started
 
+pub windows_started :
+    (touches : List Touch) (ended started : ℕ) (value : WindowsValue) → view touches ended started ≡ value
+    → length value.windows ≡ started
+windows_started touches ended started value is =
+    ap (λ (v : WindowsValue). length v.windows) (sym is) ∙ windows_len touches started
+
 pub window_is :
     (touches : List Touch) (ended started k : ℕ) → k < started → window_at (view touches ended started) k ≡ words_in touches k
 window_is touches ended started k h =
@@ -116,8 +124,7 @@ pub window_seen :
     (touches : List Touch) (ended started k : ℕ) (value : WindowsValue) → view touches ended started ≡ value
     → k < length value.windows → window_at value k ≡ words_in touches k
 window_seen touches ended started k value is h =
-    let len : length value.windows ≡ started =
-    ap (λ (v : WindowsValue). length v.windows) (sym is) ∙ windows_len touches started in
+    let len : length value.windows ≡ started = windows_started touches ended started value is in
     ap (λ (v : WindowsValue). window_at v k) (sym is) ∙ window_is touches ended started k (omega arith)
 
 window_after_is :
@@ -366,3 +373,79 @@ noted_end touches ended started note noted h = record {
   absent = noted.absent;
   once = noted.once;
 }
+
+-- ---- the touches since a window started
+
+none_pass : {A : Type 0} (test : A → Bool) (xs : List A) → All (λ x. test x ≡ false) xs → filter test xs ≡ []
+none_pass test [] fail = refl
+none_pass test (x ∷ xs) fail =
+    let here : test x ≡ false = fail 0 x (omega arith) in
+    rw here (none_pass test xs (λ k d h. fail (suc k) d (omega arith)))
+
+pub kept_since :
+    (touches : List Touch) (begin k : ℕ) → All (λ (t : Touch). t.to ≤ k) (take begin touches)
+    → filter (covers k) (drop begin touches) ≡ filter (covers k) touches
+kept_since touches begin k before =
+    let none : filter (covers k) (take begin touches) ≡ [] =
+    none_pass (covers k) (take begin touches) (λ i d h. covers_above k (slice_index_or (take begin touches) i d) (before i d h)) in
+    let all : filter (covers k) (take begin touches ++ drop begin touches)
+    ≡ filter (covers k) (take begin touches) ++ filter (covers k) (drop begin touches) =
+    filter-append (covers k) (take begin touches) (drop begin touches) in
+    sym (ap (λ (ts : List Touch). filter (covers k) ts) (sym (take-append-drop begin touches))
+    ∙ all
+    ∙ ap (λ (ts : List Touch). ts ++ filter (covers k) (drop begin touches)) none)
+
+pub words_since :
+    (touches : List Touch) (begin k : ℕ) → All (λ (t : Touch). t.to ≤ k) (take begin touches)
+    → words_in (drop begin touches) k ≡ words_in touches k
+words_since touches begin k before =
+    ap (λ (ts : List Touch). memory_of (map word_of ts)) (kept_since touches begin k before)
+
+pub begun_none : (touches : List Touch) (begins : List ℕ) → touches ≡ [] → begins ≡ [] → AreBegun touches begins 0
+begun_none touches begins none no_begins = rw (none, no_begins) (record {
+  count = refl;
+  within = λ k h. absurd (omega arith);
+  most = λ k d h. absurd (omega arith);
+  before = λ k h. absurd (omega arith);
+})
+
+pub begun_start :
+    (touches : List Touch) (begins after : List ℕ) (started : ℕ) → AreBegun touches begins started
+    → after ≡ begins ++ length touches ∷ [] → AreBegun touches after (started + 1)
+begun_start touches begins after started begun all =
+    let len : length (begins ++ length touches ∷ []) ≡ length begins + 1 = length-append begins (length touches ∷ []) in
+    let old : (k : ℕ) → k < started → slice_index (begins ++ length touches ∷ []) k ≡ slice_index begins k =
+    λ k h. get_or_append_left begins (length touches ∷ []) 0 k (omega (arith, begun.count)) in
+    let new : slice_index (begins ++ length touches ∷ []) started ≡ length touches =
+    ap (λ i. slice_index (begins ++ length touches ∷ []) i) (sym begun.count) ∙ get_or-append_seam begins (length touches) [] 0 in
+    rw all (record {
+      count = omega (arith, len, begun.count);
+      within = λ k h. elim (cases_lt k started) [
+        | inl lt ↦ rw (old k lt) (begun.within k lt)
+        | inr ge ↦ let same : k ≡ started = omega arith in rw (same, new) (omega arith)
+      ];
+      most = λ i d h. omega (arith, begun.most i d h);
+      before = λ k h. elim (cases_lt k started) [
+        | inl lt ↦ rw (old k lt) (begun.before k lt)
+        | inr ge ↦
+            let same : k ≡ started = omega arith in
+            rw (same, new, take_all (length touches) touches (omega arith)) begun.most
+      ];
+    })
+
+pub begun_touch :
+    (touches after : List Touch) (begins : List ℕ) (started : ℕ) (t : Touch) → AreBegun touches begins started
+    → t.to ≡ started → after ≡ touches ++ t ∷ [] → AreBegun after begins started
+begun_touch touches after begins started t begun to all =
+    let len : length (touches ++ t ∷ []) ≡ length touches + 1 = length-append touches (t ∷ []) in
+    rw all (record {
+      count = begun.count;
+      within = λ k h. omega (arith, begun.within k h, len);
+      most = All-push (λ (touch : Touch). touch.to ≤ started) touches t begun.most (omega (arith, to));
+      before = λ k h. rw (take-append-le (slice_index begins k) touches (t ∷ []) (begun.within k h)) (begun.before k h);
+    })
+
+pub begun_same :
+    (touches : List Touch) (begins after : List ℕ) (started : ℕ) → AreBegun touches begins started → after ≡ begins
+    → AreBegun touches after started
+begun_same touches begins after started begun same = rw same begun

@@ -1,5 +1,5 @@
 -- Windows, by the touches that were the first of some of them.
-use Rattle.std.specs.Prelude.{◌≡◌, ℕ, ◌≤◌, ◌<◌, ◌^◌, ◌&&◌, nat_le, nat_lt, Bool, true, is_some, Option, Some, None, List, length, map, filter, nat_eq}
+use Rattle.std.specs.Prelude.{◌≡◌, ℕ, ◌≤◌, ◌<◌, ◌^◌, ◌&&◌, nat_le, nat_lt, Bool, true, is_some, Option, Some, None, List, length, map, take, slice_index, filter, nat_eq}
 use Rattle.std.specs.FinMap as finite
 use Rattle.std.specs.List.{All, range_with_len}
 use Rattle.rv_exec.specs.Memory.{Words, word_at}
@@ -35,6 +35,13 @@ windows_of fields = record {
   ended = fields.ended;
 }
 
+-- what was touched before a window started was the first touch of earlier ones alone
+pub record AreBegun (touches : List Touch) (begins : List ℕ) (started : ℕ) : Type 0 where
+  pub count : length begins ≡ started
+  pub within : (k : ℕ) → k < started → slice_index begins k ≤ length touches
+  pub most : All (λ touch. touch.to ≤ started) touches
+  pub before : (k : ℕ) → k < started → All (λ touch. touch.to ≤ k) (take (slice_index begins k) touches)
+
 -- a window that hasn't ended has found a word exactly where it had started when the word was last touched
 pub record AreNoted (touches : List Touch) (ended started : ℕ) (note : ℕ → ℕ) : Type 0 where
   pub words : All (λ touch. IsWord (word_of touch)) touches
@@ -47,4 +54,6 @@ pub record AreNoted (touches : List Touch) (ended started : ℕ) (note : ℕ →
   pub once : (k : ℕ) → finite.len (words_in touches k) ≡ length (filter (covers k) touches)
 
 abbrev pub AreWindows : Inside → Type 0
-AreWindows fields = AreNoted fields.touches.items fields.ended fields.started (note_of fields)
+AreWindows fields =
+    AreNoted fields.touches.items fields.ended fields.started (note_of fields)
+    × AreBegun fields.touches.items fields.begins.items fields.started

@@ -133,7 +133,7 @@ fn keeps_the_first_of_each_window(rt: HostRuntime) -> Result<(), Fail> {
     let mut windows = Windows::new(rt.alloc());
     for event in &EVENTS {
         match event {
-            Event::Start if windows.started() < 3 => windows.start(),
+            Event::Start if windows.started() < 3 => windows.start()?,
             Event::End if windows.ended() < windows.started() => windows.end(),
             Event::Touch(addr, value) if *addr % 4 == 0 => windows.touch(*addr, *value)?,
             _ => return Err("no such event".into()),

@@ -1,4 +1,4 @@
-ghost use Rattle.std.specs.Prelude.{◌≡◌, ◌%◌, ◌^◌, ◌+◌, ◌<◌, ◌≤◌, [], length, IfOk, OnOk, OnErr, nat_eq, filter};
+ghost use Rattle.std.specs.Prelude.{◌≡◌, ◌%◌, ◌^◌, ◌+◌, ◌<◌, ◌≤◌, [], length, IfOk, OnOk, OnErr, nat_eq, filter, drop, slice_index};
 ghost use Rattle.std.specs.FinMap as finite;
 ghost use Rattle.live_words.specs.Windows.{window_at, with_touch, with_window};
 ghost use Rattle.live_words.specs.WindowsView.{covers, noted, word_of, words_in};
@@ -31,6 +31,8 @@ pub struct Windows {
     /// How many windows had started when a word was last touched.
     notes: IndexMap<u32, u32>,
     touches: Vec<Touch>,
+    /// How many touches there were when each window started.
+    begins: Vec<usize>,
     started: u32,
     ended: u32,
 }
@@ -77,6 +79,7 @@ impl Windows {
             alloc,
             notes: IndexMap::new(alloc),
             touches: Vec::new(alloc),
+            begins: Vec::new(alloc),
             started: 0,
             ended: 0,
         }
@@ -98,11 +101,25 @@ impl Windows {
     }
 
     /// Starts a window, which is numbered by those before it.
-    pub fn start(&mut self)
+    pub fn start(&mut self) -> Result<(), NoMemory>
         requires { length self.old.windows + 1 < 2 ^ 32 }
-        ensures { self.new ≡ with_window self.old }
+        ensures started { OnOk result (self.new ≡ with_window self.old) }
+        ensures unchanged { OnErr result (self.new ≡ self.old) }
     {
+        self.begins.push(self.touches.len())?;
         self.started += 1;
+        Ok(())
+    }
+
+    /// The touches since a window started.
+    fn since(&self, window: u32) -> &[Touch]
+        requires { window < length self.now.windows }
+        ensures words { words_in result.now window ≡ window_at self.now window }
+        ensures once { finite.len (window_at self.now window) ≡ length (filter (covers window) result.now) }
+        ensures found { All (λ touch. IsWord (word_of touch)) result.now }
+    {
+        let begin = begin_of(self.begins.as_slice(), window);
+        from_on(self.touches.as_slice(), begin)
     }
 
     /// Ends the window that started first of those that haven't ended.
@@ -139,7 +156,7 @@ impl Windows {
         requires { window < length self.now.windows }
         ensures { result ≡ finite.len (window_at self.now window) }
     {
-        count_covered(self.touches.as_slice(), window)
+        count_covered(self.since(window), window)
     }
 
     /// The words that a window has found so far, by rising address.
@@ -147,9 +164,25 @@ impl Windows {
         requires { window < length self.now.windows }
         ensures { IfOk result (λ words. words ≡ pairs_of (window_at self.now window)) }
     {
-        let collector = collected(self.alloc, self.touches.as_slice(), window)?;
+        let collector = collected(self.alloc, self.since(window), window)?;
         Ok(collector.finish()?)
     }
+}
+
+/// Where the touches since a window began begin.
+fn begin_of(begins: &[usize], window: u32) -> usize
+    requires { window < length begins.now }
+    ensures { result ≡ slice_index begins.now window }
+{
+    begins[window as usize]
+}
+
+/// The touches from one on.
+fn from_on(touches: &[Touch], begin: usize) -> &[Touch]
+    requires { begin ≤ length touches.now }
+    ensures { result.now ≡ drop begin touches.now }
+{
+    &touches[begin..]
 }
 
 /// How many touches were the first of their word for a window.

@@ -1,11 +1,9 @@
-use Rattle.std.proofs.Common.{sym, ◌∙◌, ◌≡◌, ap, length, arith}
-use Rattle.live_words.specs.Windows.{WindowsValue}
-use Rattle.live_words.proofs.WindowsLemmas.{windows_len}
+use Rattle.std.proofs.Common.{◌≡◌, length, arith}
+use Rattle.live_words.proofs.WindowsLemmas.{windows_started}
 use Rattle.live_words.proofs.windows.Windows.ended.Goals as goal
 
 pub returns-clause-most : goal.returns-clause-most
 returns-clause-most c =
     let len : length c.args.self.now.windows ≡ c.self.inside.started =
-    ap (λ (v : WindowsValue). length v.windows) (sym c.self.view_is)
-    ∙ windows_len c.self.inside.touches.items c.self.inside.started in
-    omega (arith, len, c.self.invariant.order)
+    windows_started c.self.inside.touches.items c.self.inside.ended c.self.inside.started c.args.self.now c.self.view_is in
+    omega (arith, len, c.self.invariant.0.order)
