@@ -8,7 +8,7 @@ use Rattle.recency_record.specs.declared.entry.Entry.{Entry}
 use Rattle.recency_record.specs.declared.fault.RecordFault.{RecordFault}
 use Rattle.recency_record.specs.declared.fault.RecordFault.TheVariants.{TooMany, WrongSet, Repeated, TimeRange, NotDescending}
 use Rattle.std.specs.List.{AllByRecursion}
-use Rattle.recency_record.specs.Recency.{IsRecency, AreSets, IsSet, IsEntry, IsRanked}
+use Rattle.recency_record.specs.Recency.{Recency, IsRecency, AreSets, IsSet, IsEntry, IsRanked}
 use Rattle.recency_record.specs.Faults.{belongs, is_no_later, block_fault, time_fault, entry_fault, entries_fault, set_fault, sets_fault, dealt}
 use Rattle.recency_record.proofs.Eachs.{each_append, each_both, each_weaker}
 use Rattle.recency_record.proofs.Ranks.{ranked_push}
@@ -196,7 +196,15 @@ sets_none g now number (es ∷ rest) h =
           subst (λ (n : ℕ). IsSet g now n (get_or rest k [])) along (h (suc k) (omega (arith, below)))),
     ) refl
 
--- so there is no fault exactly where all rules are kept
+-- so what holds of every snapshot is no fault
+pub recency_is_sound : (r : Recency) → IsRecency r → sets_fault r.shape r.time 0 r.sets ≡ None
+recency_is_sound r h =
+    sets_none r.shape r.time 0 r.sets
+    (λ k below.
+    let same : k ≡ 0 + k = omega arith in
+    subst (λ (n : ℕ). IsSet r.shape r.time n (get_or r.sets k [])) same (h.sets k (rw h.count at below)))
+
+-- and there is none exactly where all rules are kept
 pub faults_are : (g : Shape) (time : ℕ) (counts : List ℕ) (entries : List Entry) → length counts ≡ sets_of g
     → (sets_fault g time 0 (dealt counts entries) ≡ None) ↔ AreSets g time (dealt counts entries)
 faults_are g time counts entries count = (
