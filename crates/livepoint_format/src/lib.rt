@@ -1,0 +1,6 @@
+//! The bytes of a library of live-points.
+#![tactic(auto)]
+
+mod fault;
+
+pub use fault::LibraryFault;
