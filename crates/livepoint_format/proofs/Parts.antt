@@ -281,3 +281,6 @@ module _ (shared : List (ℕ × ℕ)) (ranked : Follow (IsPair ranks) [] shared)
         let long : length (pairs_at shared (places_of_runs p.runs)) ≡ length (places_of_runs p.runs) =
         length-map (places_of_runs p.runs) (λ place. get_or shared place (0, 0)) in
         omega (arith, length_merged p.own (flat_map (stretch shared) p.runs), ap length run_words, sum_of_runs p.runs, runs_within.few)
+
+pub words_apart : (ws : List (ℕ × ℕ)) → AreWords ws → are_apart ws ≡ true
+words_apart ws words = apart_of_rising 0 ws (rising_of_words [] ws words)

@@ -346,12 +346,13 @@ record TookItems {A : Type 0} (spelling : A → List ℕ) (MayStand : List A →
   bytes : IsBytes after.rest
 
 module _ {A : Type 0} {item : List A → Reader A} {spelling : A → List ℕ} {MayStand : List A → A → Type 0}
-    (each : (before : List A) → Spells (item before) spelling (MayStand before)) where
-  took_items : (n : ℕ) (before : List A) (at : Spot) (xs : List A) (after : Spot) → IsBytes at.rest
+    (most : ℕ) (each : (before : List A) → length before < most → Spells (item before) spelling (MayStand before)) where
+  took_items : (n : ℕ) (before : List A) (at : Spot) (xs : List A) (after : Spot) → length before + n ≤ most → IsBytes at.rest
       → items item n before at ≡ Ok (xs, after) → TookItems spelling MayStand n before at xs after
   unfolding items
-  took_items zero before at xs after bytes e =
-      let same : (before, at) ≡ (xs, after) = cc in
+  took_items zero before at xs after few bytes e =
+      let pair : List A × Spot = (before, at) in
+      let same : pair ≡ (xs, after) = cc in
       let spot : at ≡ after = ap (λ (p : List A × Spot). p.1) same in
       let value : before ≡ xs = ap (λ (p : List A × Spot). p.0) same in
       record {
@@ -363,11 +364,11 @@ module _ {A : Type 0} {item : List A → Reader A} {spelling : A → List ℕ} {
         place = omega (arith, ap (λ (s : Spot). s.place) spot);
         bytes = subst (λ (s : Spot). IsBytes s.rest) spot bytes;
       }
-  took_items (suc n) before at xs after bytes e =
+  took_items (suc n) before at xs after few bytes e =
       let o : Onward (item before at) (λ x middle. items item n (before ++ x ∷ []) middle) xs after =
       onward_ok (item before at) (λ x middle. items item n (before ++ x ∷ []) middle) xs after e in
-      let a : Took spelling (MayStand before) at o.x o.middle = (each before).takes at o.x o.middle bytes o.first in
-      let b : TookItems spelling MayStand n (before ++ o.x ∷ []) o.middle xs after = took_items n (before ++ o.x ∷ []) o.middle xs after a.bytes o.then in
+      let a : Took spelling (MayStand before) at o.x o.middle = (each before (omega arith)).takes at o.x o.middle bytes o.first in
+      let b : TookItems spelling MayStand n (before ++ o.x ∷ []) o.middle xs after = took_items n (before ++ o.x ∷ []) o.middle xs after (omega (arith, length-append before (o.x ∷ []))) a.bytes o.then in
       record {
         more = o.x ∷ b.more;
         are = b.are ∙ append_assoc before (o.x ∷ []) b.more;
@@ -378,37 +379,42 @@ module _ {A : Type 0} {item : List A → Reader A} {spelling : A → List ℕ} {
         bytes = b.bytes;
       }
 
-  again_items : (n : ℕ) (before more : List A) (place : ℕ) (rest : List ℕ) → length more ≡ n → Follow MayStand before more
+  again_items : (n : ℕ) (before more : List A) (place : ℕ) (rest : List ℕ) → length before + n ≤ most → length more ≡ n → Follow MayStand before more
       → items item n before (record { place = place; rest = flat_map spelling more ++ rest })
       ≡ Ok (before ++ more, record { place = place + length (flat_map spelling more); rest = rest })
   unfolding items
-  again_items zero before [] place rest long follow =
+  again_items zero before [] place rest few long follow =
       let none : place ≡ place + 0 = omega arith in
       rw (append-nil before, ← none) refl
-  again_items (suc n) before [] place rest long follow = absurd (omega arith)
-  again_items zero before (x ∷ more) place rest long follow = absurd (omega arith)
-  again_items (suc n) before (x ∷ more) place rest long follow =
+  again_items (suc n) before [] place rest few long follow = absurd (omega arith)
+  again_items zero before (x ∷ more) place rest few long follow = absurd (omega arith)
+  again_items (suc n) before (x ∷ more) place rest few long follow =
       let sum : (place + length (spelling x)) + length (flat_map spelling more) ≡ place + length (spelling x ++ flat_map spelling more) =
       omega (arith, length-append (spelling x) (flat_map spelling more)) in
       ap (λ (l : List ℕ). items item (suc n) before (record { place = place; rest = l })) (append_assoc (spelling x) (flat_map spelling more) rest)
       ∙ ap (λ (r : Result (A × Spot) LibraryFault). onward r (λ y middle. items item n (before ++ y ∷ []) middle))
-      ((each before).again x place (flat_map spelling more ++ rest) follow.0)
-      ∙ again_items n (before ++ x ∷ []) more (place + length (spelling x)) rest (omega arith) follow.1
+      ((each before (omega arith)).again x place (flat_map spelling more ++ rest) follow.0)
+      ∙ again_items n (before ++ x ∷ []) more (place + length (spelling x)) rest (omega (arith, length-append before (x ∷ []))) (omega arith) follow.1
       ∙ ap (λ (l : List A). let r : Result (List A × Spot) LibraryFault = Ok (l, record { place = (place + length (spelling x)) + length (flat_map spelling more); rest = rest }) in r) (append_assoc before (x ∷ []) more)
       ∙ ap (λ (m : ℕ). let s : Spot = record { place = m; rest = rest } in let r : Result (List A × Spot) LibraryFault = Ok (before ++ x ∷ more, s) in r) sum
 
-  pub items_spell : (n : ℕ) → Spells (items item n []) (flat_map spelling) (λ xs. (length xs ≡ n) × Follow MayStand [] xs)
-  items_spell n = record {
+  pub few_items_spell : (n : ℕ) → n ≤ most → Spells (items item n []) (flat_map spelling) (λ xs. (length xs ≡ n) × Follow MayStand [] xs)
+  few_items_spell n few = record {
     takes = λ at xs after bytes e.
-        let t : TookItems spelling MayStand n [] at xs after = took_items n [] at xs after bytes e in
+        let t : TookItems spelling MayStand n [] at xs after = took_items n [] at xs after (omega arith) bytes e in
         record {
           is_in = rw t.are (t.long, t.follow);
           text = rw t.are t.text;
           place = rw t.are t.place;
           bytes = t.bytes;
         };
-    again = λ xs place rest is. again_items n [] xs place rest is.0 is.1;
+    again = λ xs place rest is. again_items n [] xs place rest (omega arith) is.0 is.1;
   }
+
+module _ {A : Type 0} {item : List A → Reader A} {spelling : A → List ℕ} {MayStand : List A → A → Type 0}
+    (each : (before : List A) → Spells (item before) spelling (MayStand before)) where
+  pub items_spell : (n : ℕ) → Spells (items item n []) (flat_map spelling) (λ xs. (length xs ≡ n) × Follow MayStand [] xs)
+  items_spell n = few_items_spell n (λ before few. each before) n (omega arith)
 
   -- behind their number
   pub counted_spell : {count : Reader ℕ} {number : ℕ → List ℕ} {IsNumber : ℕ → Type 0} → Spells count number IsNumber

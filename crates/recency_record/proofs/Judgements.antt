@@ -19,11 +19,11 @@ neither None b h = (refl, h)
 neither (Some x) b h = absurd (let e : Some x ≡ None = h in cc)
 
 -- an entry that breaks no rule
-record Passes (g : Shape) (now number : ℕ) (before : List Entry) (e : Entry) : Type 0 where
-  home : belongs g number e.block ≡ true
-  new : list_any (λ x. eqb x.block e.block) before ≡ false
-  early : ltb e.time now ≡ true
-  falls : is_no_later (slice_get before (length before - 1)) e.time ≡ false
+pub record Passes (g : Shape) (now number : ℕ) (before : List Entry) (e : Entry) : Type 0 where
+  pub home : belongs g number e.block ≡ true
+  pub new : list_any (λ x. eqb x.block e.block) before ≡ false
+  pub early : ltb e.time now ≡ true
+  pub falls : is_no_later (slice_get before (length before - 1)) e.time ≡ false
 
 block_passes : (g : Shape) (number : ℕ) (before : List Entry) (block : ℕ) → block_fault g number before block ≡ None
     → (belongs g number block ≡ true) × (list_any (λ x. eqb x.block block) before ≡ false)
@@ -49,13 +49,17 @@ time_passes now number before time h =
     go true true h = absurd cc
     go true false h = (refl, refl)
 
-passes : (g : Shape) (now number : ℕ) (before : List Entry) (e : Entry) → entry_fault g now number before e ≡ None → Passes g now number before e
+pub passes : (g : Shape) (now number : ℕ) (before : List Entry) (e : Entry) → entry_fault g now number before e ≡ None → Passes g now number before e
 unfolding entry_fault
 passes g now number before e h =
     let both : (block_fault g number before e.block ≡ None) × (time_fault now number before e.time ≡ None) = neither _ _ h in
     let block : (belongs g number e.block ≡ true) × (list_any (λ x. eqb x.block e.block) before ≡ false) = block_passes g number before e.block both.0 in
     let time : (ltb e.time now ≡ true) × (is_no_later (slice_get before (length before - 1)) e.time ≡ false) = time_passes now number before e.time both.1 in
     record { home = block.0; new = block.1; early = time.0; falls = time.1 }
+
+pub passed : (g : Shape) (now number : ℕ) (before : List Entry) (e : Entry) → Passes g now number before e → entry_fault g now number before e ≡ None
+unfolding entry_fault
+passed g now number before e h = rw (h.home, h.new, h.early, h.falls) refl
 
 -- later than the last is later than all
 all_later : (before : List Entry) (e : Entry) → IsRanked before

@@ -1,0 +1,17 @@
+-- What each element of a list is by itself, and behind those before it.
+use Rattle.std.proofs.Common.{◌≡◌, ℕ, zero, suc, ◌+◌, ◌<◌, Bool, true, List, [], ◌∷◌, ◌++◌, length, get_or, All, refl, sym, ap, subst, arith, append-nil, length-append}
+use Rattle.std.specs.List.{AllPass, AllByRecursion}
+use Rattle.std.proofs.lemmas.List.Elements.{All-from_get_or, All-get_or}
+use Rattle.live_words.specs.Follow.{Follow}
+use Rattle.live_words.proofs.FollowLemmas.{follow_at, follow_by}
+
+pub follow_weaker : {A : Type 0} (May Might : List A → A → Type 0) → ((before : List A) (x : A) → May before x → Might before x)
+    → (before xs : List A) → Follow May before xs → Follow Might before xs
+follow_weaker May Might to before [] follow = tt
+follow_weaker May Might to before (x ∷ xs) follow = (to before x follow.0, follow_weaker May Might to (before ++ x ∷ []) xs follow.1)
+
+pub all_of_follow : {A : Type 0} (P : A → Type 0) (before xs : List A) (d : A) → Follow (λ before x. P x) before xs → All P xs
+all_of_follow P before xs d follow = All-from_get_or P xs d (λ i h. follow_at (λ before x. P x) before xs i d follow h)
+
+pub follow_of_all : {A : Type 0} (P : A → Type 0) (before xs : List A) (d : A) → All P xs → Follow (λ before x. P x) before xs
+follow_of_all P before xs d all = follow_by (λ before x. P x) before xs d (λ i h. All-get_or P xs i d h all)
