@@ -103,8 +103,8 @@ cache_spells : Spells (geometry_at is_cache_line) geometry IsCacheShape
 cache_spells =
     said_so (geometry_spells is_cache_line (λ n e. let i : (4 ≤ n) × (n ≤ 8) = within_of_test 4 8 n e in omega (arith, i.1)))
     (λ g i.
-      let line : (4 ≤ g.line_log) × (g.line_log ≤ 8) = within_of_test 4 8 g.line_log i.line in
-      record { shape = record { line = inl line; sets = i.sets.1; least = i.ways.0; most = i.ways.1 }; line = line.1 })
+    let line : (4 ≤ g.line_log) × (g.line_log ≤ 8) = within_of_test 4 8 g.line_log i.line in
+    record { shape = record { line = inl line; sets = i.sets.1; least = i.ways.0; most = i.ways.1 }; line = line.1 })
     (λ g i. record {
       line = elim i.shape.line [
         | inl in_range ↦ test_of_within 4 8 g.line_log in_range.0 in_range.1
@@ -119,9 +119,9 @@ tlb_spells : Spells (geometry_at is_page) geometry IsTlbShape
 tlb_spells =
     said_so (geometry_spells is_page (λ n e. let i : (12 ≤ n) × (n ≤ 12) = within_of_test 12 12 n e in omega (arith, i.1)))
     (λ g i.
-      let line : (12 ≤ g.line_log) × (g.line_log ≤ 12) = within_of_test 12 12 g.line_log i.line in
-      let page : g.line_log ≡ 12 = omega (arith, line.0, line.1) in
-      record { shape = record { line = inr page; sets = i.sets.1; least = i.ways.0; most = i.ways.1 }; page = page })
+    let line : (12 ≤ g.line_log) × (g.line_log ≤ 12) = within_of_test 12 12 g.line_log i.line in
+    let page : g.line_log ≡ 12 = omega (arith, line.0, line.1) in
+    record { shape = record { line = inr page; sets = i.sets.1; least = i.ways.0; most = i.ways.1 }; page = page })
     (λ g i. record {
       line = test_of_within 12 12 g.line_log (let h : g.line_log ≡ 12 = i.page in omega arith) (let h : g.line_log ≡ 12 = i.page in omega arith);
       sets = (omega arith, i.shape.sets);
@@ -244,6 +244,7 @@ units_few instructions count points e = go (eqb count 0) (ltb 65536 count) refl 
   where
     same : Ok count ≡ (let r : Result ℕ UnitsFault = Ok points in r) → count ≡ points
     same e = cc
+
     go : (a b : Bool) → ltb 65536 count ≡ b → cond a (Err (NoUnits instructions)) (cond b (Err (TooMany count)) (let r : Result ℕ UnitsFault = Ok count in r)) ≡ Ok points → points ≤ 65536
     go true b test e = absurd cc
     go false true test e = absurd cc
@@ -297,20 +298,46 @@ head_spells = finished
       kinds = k.1;
     })
     (λ h i. (
-      ((omega arith, eq-eqb magic magic refl),
-      ((omega (arith, i.version.1), test_of_within 1 2 h.version i.version.0 i.version.1),
-      (i.instructions,
-      (omega (arith, points_few (design_of h) h.instructions h.points i.points),
-      (i.unit,
-      ((omega arith, i.warm),
-      (i.every,
-      (i.offset,
-      (is_count_of _ h.points (units_unseeded h ∙ i.points),
-      (i.heap_low,
-      ((omega arith, i.seed),
-      (i.places,
-      ((i.few_kinds, i.kinds),
-      tt))))))))))))),
+      (
+        (omega arith, eq-eqb magic magic refl),
+        (
+          (omega (arith, i.version.1), test_of_within 1 2 h.version i.version.0 i.version.1),
+          (
+            i.instructions,
+            (
+              omega (arith, points_few (design_of h) h.instructions h.points i.points),
+              (
+                i.unit,
+                (
+                  (omega arith, i.warm),
+                  (
+                    i.every,
+                    (
+                      i.offset,
+                      (
+                        is_count_of _ h.points (units_unseeded h ∙ i.points),
+                        (
+                          i.heap_low,
+                          (
+                            (omega arith, i.seed),
+                            (
+                              i.places,
+                              (
+                                (i.few_kinds, i.kinds),
+                                tt,
+                              ),
+                            ),
+                          ),
+                        ),
+                      ),
+                    ),
+                  ),
+                ),
+              ),
+            ),
+          ),
+        ),
+      ),
       refl,
     ))
 

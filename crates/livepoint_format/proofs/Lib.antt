@@ -6,3 +6,5 @@ pub mod Parts
 pub mod Follows
 pub mod HeaderLaws
 pub mod PointLaws
+pub mod Growth
+pub mod LibraryLaws

@@ -9,7 +9,7 @@ use Rattle.live_words.specs.Follow.{last_of, Follow}
 use Rattle.live_words.specs.Words.{is_above, rises, IsPair, AreWords}
 use Rattle.live_words.proofs.FollowLemmas.{last_or-push}
 use Rattle.livepoint_format.specs.Shared.{Parts, place_in, parts_of, runs_of, stretch, words_of, are_apart, merged}
-use Rattle.livepoint_format.specs.Format.{begins, ranks, is_own, is_run}
+use Rattle.livepoint_format.specs.Format.{begins, ranks, is_own, is_run, AreParts}
 use Rattle.livepoint_format.proofs.Merges.{IsWord, AreRising, merged_filters, own_of_merged, shared_of_merged, length_merged, all_merged, words_of_rising, rising_of_apart, apart_of_rising}
 use Rattle.livepoint_format.proofs.Runs.{places_of_runs, ArePlaces, IsRun, AreRuns, places_of_runs_of, runs_of_places, runs_are, sum_of_runs, pairs_at, pairs_of_runs, places_below}
 use Rattle.livepoint_format.proofs.Places.{AreRanked, ranked_of_follow, places_rise, pairs_of_places, places_of_shared, places_of_pairs, pairs_are_shared, pairs_are_words}
@@ -41,19 +41,17 @@ after_push before w = ap next_address (last_or-push before w None)
 
 pub rising_of_words : (before ws : List (ℕ × ℕ)) → Follow (IsPair rises) before ws → AreRising (next_address (last_of before)) ws
 rising_of_words before [] follow = tt
-rising_of_words before (w ∷ ws) follow =
-    (
-      word_of_test before w follow.0.passes follow.0.addr follow.0.value,
-      subst (λ (n : ℕ). AreRising n ws) (after_push before w) (rising_of_words (before ++ w ∷ []) ws follow.1),
-    )
+rising_of_words before (w ∷ ws) follow = (
+  word_of_test before w follow.0.passes follow.0.addr follow.0.value,
+  subst (λ (n : ℕ). AreRising n ws) (after_push before w) (rising_of_words (before ++ w ∷ []) ws follow.1),
+)
 
 pub words_of_rising_ones : (before ws : List (ℕ × ℕ)) → AreRising (next_address (last_of before)) ws → Follow (IsPair rises) before ws
 words_of_rising_ones before [] are = tt
-words_of_rising_ones before (w ∷ ws) are =
-    (
-      record { addr = are.0.addr; value = are.0.value; passes = test_of_word before w are.0 },
-      words_of_rising_ones (before ++ w ∷ []) ws (subst (λ (n : ℕ). AreRising n ws) (sym (after_push before w)) are.1),
-    )
+words_of_rising_ones before (w ∷ ws) are = (
+  record { addr = are.0.addr; value = are.0.value; passes = test_of_word before w are.0 },
+  words_of_rising_ones (before ++ w ∷ []) ws (subst (λ (n : ℕ). AreRising n ws) (sym (after_push before w)) are.1),
+)
 
 abbrev absent : List (ℕ × ℕ) → ℕ × ℕ → Bool
 absent shared w = is_none (place_in shared w)
@@ -64,8 +62,7 @@ rising_of_own shared before [] follow = (tt, tt)
 rising_of_own shared before (w ∷ own) follow =
     let both : (rises before w ≡ true) × (absent shared w ≡ true) = and_parts _ _ follow.0.passes in
     let rest : AreRising (next_address (last_of (before ++ w ∷ []))) own × AllByRecursion (λ w. absent shared w ≡ true) own =
-    rising_of_own shared (before ++ w ∷ []) own follow.1 in
-    (
+    rising_of_own shared (before ++ w ∷ []) own follow.1 in (
       (
         word_of_test before w both.0 follow.0.addr follow.0.value,
         subst (λ (n : ℕ). AreRising n own) (after_push before w) rest.0,
@@ -76,11 +73,10 @@ rising_of_own shared before (w ∷ own) follow =
 own_of_rising : (shared before own : List (ℕ × ℕ)) → AreRising (next_address (last_of before)) own
     → AllByRecursion (λ w. absent shared w ≡ true) own → Follow (IsPair (is_own shared)) before own
 own_of_rising shared before [] are all = tt
-own_of_rising shared before (w ∷ own) are all =
-    (
-      record { addr = are.0.addr; value = are.0.value; passes = rw (test_of_word before w are.0, all.0) refl },
-      own_of_rising shared (before ++ w ∷ []) own (subst (λ (n : ℕ). AreRising n own) (sym (after_push before w)) are.1) all.1,
-    )
+own_of_rising shared before (w ∷ own) are all = (
+  record { addr = are.0.addr; value = are.0.value; passes = rw (test_of_word before w are.0, all.0) refl },
+  own_of_rising shared (before ++ w ∷ []) own (subst (λ (n : ℕ). AreRising n own) (sym (after_push before w)) are.1) all.1,
+)
 
 abbrev next_place : Option (ℕ × ℕ) → ℕ
 next_place None = 0
@@ -134,8 +130,7 @@ follow_of_runs most own size before (run ∷ runs) small are =
     let one : words_in (before ++ run ∷ []) ≡ words_in before + run.1 = one_more before run in
     let sum : words_in (run ∷ runs) ≡ run.1 + words_in runs = sum_by-cons (λ (r : ℕ × ℕ). r.1) run runs in
     let whole : own + words_in before + words_in (run ∷ runs) ≤ most = are.few in
-    let is : IsRun (next_place (last_of before)) size run = are.are.0 in
-    (
+    let is : IsRun (next_place (last_of before)) size run = are.are.0 in (
       record {
         addr = omega (arith, is.within);
         value = omega (arith, is.within);
@@ -147,20 +142,13 @@ follow_of_runs most own size before (run ∷ runs) small are =
         ) refl;
       },
       follow_of_runs most own size (before ++ run ∷ []) runs small
-      (record {
-        are = subst (λ (n : ℕ). AreRuns n size runs) (sym (after_run before run)) are.are.1;
-        few = omega arith;
-      }),
+          (record {
+            are = subst (λ (n : ℕ). AreRuns n size runs) (sym (after_run before run)) are.are.1;
+            few = omega arith;
+          }),
     )
 
 -- ---- back and forth
-
--- parts that may be read
-pub record AreParts (most : ℕ) (shared : List (ℕ × ℕ)) (p : Parts) : Type 0 where
-  pub few_own : length p.own ≤ most
-  pub few_runs : length p.runs ≤ most
-  pub own : Follow (IsPair (is_own shared)) [] p.own
-  pub runs : Follow (IsPair (is_run most (length p.own) (length shared))) [] p.runs
 
 rising_lower : (least lower : ℕ) (ws : List (ℕ × ℕ)) → lower ≤ least → AreRising least ws → AreRising lower ws
 rising_lower least lower [] h are = tt

@@ -63,8 +63,7 @@ pub ranked_of_follow : (before table : List (ℕ × ℕ)) → Follow (IsPair ran
 ranked_of_follow before [] follow = tt
 ranked_of_follow before (p ∷ table) follow =
     let both : (eqb (p.0 % 4) 0 ≡ true) × (is_behind (last_of before) p ≡ true) = and_parts _ _ follow.0.passes in
-    let last : last_of (before ++ p ∷ []) ≡ Some p = last_or-push before p None in
-    (
+    let last : last_of (before ++ p ∷ []) ≡ Some p = last_or-push before p None in (
       record {
         next = next_of_test (last_of before) p both.1;
         aligned = eqb-true _ _ both.0;
@@ -124,6 +123,7 @@ place_is at (q ∷ table) p i e = go (same q p) refl e (place_is (at + 1) table 
   where
     here : Some at ≡ Some i → at ≡ i
     here e = cc
+
     go : (b : Bool) → same q p ≡ b → cond b (Some at) (place_from (at + 1) table p) ≡ Some i
         → (place_from (at + 1) table p ≡ Some i → IsPlace (at + 1) table p i) → IsPlace at (q ∷ table) p i
     go true is e later =
@@ -152,6 +152,7 @@ places_rise table are k least low (w ∷ ws) rise = go (place_in table w) refl (
   where
     first : least ≤ w.0
     first = rise.0.low
+
     go : (o : Option ℕ) → place_in table w ≡ o
         → ((from : ℕ) → ((j : ℕ) → j < from → j < length table → (get_or table j (0, 0)).0 < suc w.0) → ArePlaces from (length table) (filter_map (place_in table) ws))
         → ArePlaces k (length table) (cons_option (place_in table w) (filter_map (place_in table) ws))
@@ -167,7 +168,7 @@ places_rise table are k least low (w ∷ ws) rise = go (place_in table w) refl (
         rw e (
           (above, at.0),
           later (suc i)
-          (λ j h within. let b : (get_or table j (0, 0)).0 ≤ (get_or table i (0, 0)).0 = low_before None table j i are (omega arith) at.0 in omega arith),
+              (λ j h within. let b : (get_or table j (0, 0)).0 ≤ (get_or table i (0, 0)).0 = low_before None table j i are (omega arith) at.0 in omega arith),
         )
 
 -- the pairs at the places of words are the words that have places

@@ -27,11 +27,11 @@ use Rattle.live_words.proofs.FollowLemmas.{follow_at, follow_by}
 use Rattle.livepoint_format.specs.Reading.{Reader, done, ◌>>=◌, number, judged, demanded, items, counted}
 use Rattle.livepoint_format.specs.Values.{Head, Point}
 use Rattle.livepoint_format.specs.Shared.{Parts, parts_of, words_of, are_apart}
-use Rattle.livepoint_format.specs.Format.{byte, word, long, pair, parts_text, words_text, entry, set, snapshot, snapshots, image, point, is_first, within, design_of, most_words, IsHeader, ranks, AreShared, is_own, is_run, IsSnap, AreSnaps, kind_at, IsImageOf, AreImages, IsPoint, IsNewKind}
+use Rattle.livepoint_format.specs.Format.{byte, word, long, pair, parts_text, words_text, entry, set, snapshot, snapshots, image, point, is_first, within, design_of, most_words, IsHeader, ranks, AreShared, is_own, is_run, AreParts, IsSnap, AreSnaps, kind_at, IsImageOf, AreImages, IsPoint, IsNewKind}
 use Rattle.livepoint_format.specs.Decoding.{bad_field, field, pair_at, word_after, own_after, run_after, parts_at, merged_at, words_at, Which, bad_record, entry_after, entry_count, set_after, snapshot_at, snapshots_at, target_after, counter_after, address_after, image_at, image_after, register_after, registers_count, point_at}
 use Rattle.livepoint_format.proofs.Spells.{Spells, Builds, built, built_by, built_last, finished, said_so, made, number_spells, judged_spells, items_spell, few_items_spell, counted_spell, IsWide, wide8, wide32, wide64}
 use Rattle.livepoint_format.proofs.Follows.{follow_weaker, all_of_follow, follow_of_all}
-use Rattle.livepoint_format.proofs.Parts.{AreParts, words_apart, words_again, parts_are, parts_again, words_are, words_few}
+use Rattle.livepoint_format.proofs.Parts.{words_apart, words_again, parts_are, parts_again, words_are, words_few}
 use Rattle.livepoint_format.proofs.HeaderLaws.{test_spells, small_spells, within_spells, below_spells, test_of_within, within_of_test, pair_spells, tested_pairs}
 
 turned : (b : Bool) → not b ≡ true → b ≡ false
@@ -56,16 +56,17 @@ entry_spells which limit number small before = finished
     built_last (λ (e : Entry). e.time) (judged_spells _ _ (judged_spells (λ t. ltb t limit) _ (number_spells w64 (2 ^ 64) wide64))) (λ x y i g. refl) λ time _.
     made (record { block = block; time = time }))
     (λ e f same. passed which.shape limit number before e
-      (record { home = f.0.0.1; new = turned _ f.0.1; early = f.1.0.0.1; falls = turned _ f.1.0.1 }))
+    (record { home = f.0.0.1; new = turned _ f.0.1; early = f.1.0.0.1; falls = turned _ f.1.0.1 }))
     (λ e i.
-      let p : Passes which.shape limit number before e = passes which.shape limit number before e i in
-      let home : (ltb e.block (2 ^ (32 - which.shape.line_log)) ≡ true) × _ = and_parts _ _ p.home in
-      let early : e.time < limit = ltb-true _ _ p.early in
+    let p : Passes which.shape limit number before e = passes which.shape limit number before e i in
+    let home : (ltb e.block (2 ^ (32 - which.shape.line_log)) ≡ true) × _ = and_parts _ _ p.home in
+    let early : e.time < limit = ltb-true _ _ p.early in (
       (
-        (((below_line e.block which.shape.line_log (ltb-true _ _ home.0), p.home), ap not p.new),
-        (((omega arith, p.early), ap not p.falls), tt)),
-        refl,
-      ))
+        ((below_line e.block which.shape.line_log (ltb-true _ _ home.0), p.home), ap not p.new),
+        (((omega arith, p.early), ap not p.falls), tt),
+      ),
+      refl,
+    ))
 
 neither : {A : Type 0} (a b : Option A) → option_or a b ≡ None → (a ≡ None) × (b ≡ None)
 neither None b h = (refl, h)
@@ -101,14 +102,15 @@ set_spells : (which : Which) → IsShape which.shape → (limit : ℕ) → limit
 unfolding set_after set byte
 set_spells which shape limit small before =
     said_so (counted_spell (entry_spells which limit (length before) small)
-      (judged_spells (λ n. leb n which.shape.ways) _ (number_spells w8 256 wide8)))
+    (judged_spells (λ n. leb n which.shape.ways) _ (number_spells w8 256 wide8)))
     (λ es i.
-      not_too_many which.shape limit (length before) es (leb-true _ _ i.0.1)
-      ∙ entries_of_follow which.shape limit (length before) [] es i.1)
+    not_too_many which.shape limit (length before) es (leb-true _ _ i.0.1)
+    ∙ entries_of_follow which.shape limit (length before) [] es i.1)
     (λ es i.
-      let few : length es ≤ which.shape.ways = set_few which.shape limit (length before) es i in
-      ((omega (arith, few, shape.most), le-leb (length es) which.shape.ways few),
-      follow_of_entries which.shape limit (length before) [] es (sym (not_too_many which.shape limit (length before) es few) ∙ i)))
+    let few : length es ≤ which.shape.ways = set_few which.shape limit (length before) es i in (
+      (omega (arith, few, shape.most), le-leb (length es) which.shape.ways few),
+      follow_of_entries which.shape limit (length before) [] es (sym (not_too_many which.shape limit (length before) es few) ∙ i),
+    ))
     (λ es i. refl)
 
 push_long : {A : Type 0} (before : List A) (x : A) → length (before ++ x ∷ []) ≡ length before + 1
@@ -183,8 +185,8 @@ target_spells kind before = finished
     made (pc, target))
     (λ e f same. record { addr = f.0.0; value = f.1.0.0; passes = rw (f.0.1, f.1.0.1) refl })
     (λ e i.
-      let both : (is_source kind (length before) e.0 ≡ true) × (is_target e.0 e.1 ≡ true) = and_parts _ _ i.passes in
-      (((i.addr, both.0), ((i.value, both.1), tt)), refl))
+    let both : (is_source kind (length before) e.0 ≡ true) × (is_target e.0 e.1 ≡ true) = and_parts _ _ i.passes in
+    (((i.addr, both.0), ((i.value, both.1), tt)), refl))
 
 history_small : (kind : PredictorKind) → IsKind kind → (n : ℕ) → is_history kind n ≡ true → n < 2 ^ 32
 history_small kind is n e =
@@ -214,12 +216,12 @@ follow_of_targets : (kind : PredictorKind) (ts : List (ℕ × ℕ)) → All Fits
 follow_of_targets kind ts fit each =
     follow_by (IsPair (stands_at kind)) [] ts no_target
     (λ i h.
-      let f : Fits (get_or ts i no_target) = All-get_or Fits ts i no_target h fit in
-      record {
-        addr = f.0;
-        value = f.1;
-        passes = subst (λ (n : ℕ). is_entry kind n (get_or ts i no_target) ≡ true) (sym (taken_long ts i h)) (each i h);
-      })
+    let f : Fits (get_or ts i no_target) = All-get_or Fits ts i no_target h fit in
+    record {
+      addr = f.0;
+      value = f.1;
+      passes = subst (λ (n : ℕ). is_entry kind n (get_or ts i no_target) ≡ true) (sym (taken_long ts i h)) (each i h);
+    })
 
 pub image_spells : (kind : PredictorKind) → IsKind kind → Spells (image_at kind) image (IsImageOf kind)
 unfolding image_at image byte word
@@ -230,39 +232,48 @@ image_spells kind is = finished
     built_last (λ (t : Tables). t.stack) (counted_spell address_spells (within_spells w8 256 wide8 0 kind.depth (omega (arith, is.most_depth)))) (λ x y i g. refl) λ stack _.
     made (record { kind = kind; counters = counters; history = history; targets = targets; stack = stack }))
     (λ t (c, (h, (g, (s, end)))) same.
-      let same_kind : t.kind ≡ kind = ap (λ (t : Tables). t.kind) same in
-      record {
-        kind = same_kind;
-        image = record {
-          tables = record {
-            kind = rw same_kind is;
-            counters = rw same_kind c.0;
-            history = rw same_kind (history_below kind.scheme kind.bits t.history h);
-            targets = rw same_kind g.0;
-            stack = rw same_kind s.0.1;
-          };
-          ranges = record {
-            counters = all_of_follow (λ n. is_counter n ≡ true) [] t.counters 0 c.1;
-            history = rw same_kind h;
-            targets = rw same_kind (targets_stand kind t.targets g.1);
-            stack = all_of_follow (λ n. is_instruction n ≡ true) [] t.stack 0 (follow_weaker (λ b. IsAddress) (λ b n. is_instruction n ≡ true) (λ b n a. a.1) [] t.stack s.1);
-          };
+    let same_kind : t.kind ≡ kind = ap (λ (t : Tables). t.kind) same in
+    record {
+      kind = same_kind;
+      image = record {
+        tables = record {
+          kind = rw same_kind is;
+          counters = rw same_kind c.0;
+          history = rw same_kind (history_below kind.scheme kind.bits t.history h);
+          targets = rw same_kind g.0;
+          stack = rw same_kind s.0.1;
         };
-        targets = targets_fit kind t.targets g.1;
-        stack = all_of_follow (λ n. n < 2 ^ 32) [] t.stack 0 (follow_weaker (λ b. IsAddress) (λ b n. n < 2 ^ 32) (λ b n a. a.0) [] t.stack s.1);
-      })
+        ranges = record {
+          counters = all_of_follow (λ n. is_counter n ≡ true) [] t.counters 0 c.1;
+          history = rw same_kind h;
+          targets = rw same_kind (targets_stand kind t.targets g.1);
+          stack = all_of_follow (λ n. is_instruction n ≡ true) [] t.stack 0 (follow_weaker (λ b. IsAddress) (λ b n. is_instruction n ≡ true) (λ b n a. a.1) [] t.stack s.1);
+        };
+      };
+      targets = targets_fit kind t.targets g.1;
+      stack = all_of_follow (λ n. n < 2 ^ 32) [] t.stack 0 (follow_weaker (λ b. IsAddress) (λ b n. n < 2 ^ 32) (λ b n a. a.0) [] t.stack s.1);
+    })
     (λ t i.
-      let tables = rw i.kind at i.image.tables.counters in
+    let tables = rw i.kind at i.image.tables.counters in (
       (
-        ((rw i.kind at i.image.tables.counters, follow_of_all (λ n. is_counter n ≡ true) [] t.counters 0 i.image.ranges.counters),
-        (rw i.kind at i.image.ranges.history,
-        ((rw i.kind at i.image.tables.targets, follow_of_targets kind t.targets i.targets (rw i.kind at i.image.ranges.targets)),
-        (((omega arith, rw i.kind at i.image.tables.stack),
-        follow_of_all IsAddress [] t.stack 0
-        (All-from_get_or IsAddress t.stack 0 (λ k h. (All-get_or (λ n. n < 2 ^ 32) t.stack k 0 h i.stack, All-get_or (λ n. is_instruction n ≡ true) t.stack k 0 h i.image.ranges.stack)))),
-        tt)))),
-        ap (λ (k : PredictorKind). let u : Tables = record { kind = k; counters = t.counters; history = t.history; targets = t.targets; stack = t.stack } in u) i.kind,
-      ))
+        (rw i.kind at i.image.tables.counters, follow_of_all (λ n. is_counter n ≡ true) [] t.counters 0 i.image.ranges.counters),
+        (
+          rw i.kind at i.image.ranges.history,
+          (
+            (rw i.kind at i.image.tables.targets, follow_of_targets kind t.targets i.targets (rw i.kind at i.image.ranges.targets)),
+            (
+              (
+                (omega arith, rw i.kind at i.image.tables.stack),
+                follow_of_all IsAddress [] t.stack 0
+                    (All-from_get_or IsAddress t.stack 0 (λ k h. (All-get_or (λ n. n < 2 ^ 32) t.stack k 0 h i.stack, All-get_or (λ n. is_instruction n ≡ true) t.stack k 0 h i.image.ranges.stack))),
+              ),
+              tt,
+            ),
+          ),
+        ),
+      ),
+      ap (λ (k : PredictorKind). let u : Tables = record { kind = k; counters = t.counters; history = t.history; targets = t.targets; stack = t.stack } in u) i.kind,
+    ))
 
 kind_is : (kinds : List PredictorKind) → Follow IsNewKind [] kinds → (i : ℕ) → i < length kinds → IsKind (kind_at kinds i)
 kind_is kinds follow i h = (follow_at IsNewKind [] kinds i _ follow h).kind
@@ -304,8 +315,8 @@ merged_spells number most small shared are = finished
       few = rw same (words_few shared are.1 most (parts_of shared ws) f.0.0);
     })
     (λ ws i.
-      let again : words_of shared (parts_of shared ws) ≡ ws = words_again shared are.1 ws i.words in
-      (((parts_are shared are.1 most ws (omega (arith, are.0)) i.words i.few, rw again (words_apart ws i.words)), tt), sym again))
+    let again : words_of shared (parts_of shared ws) ≡ ws = words_again shared are.1 ws i.words in
+    (((parts_are shared are.1 most ws (omega (arith, are.0)) i.words i.few, rw again (words_apart ws i.words)), tt), sym again))
 
 pub words_spell : (first : Bool) (number most : ℕ) → most < 2 ^ 32 → (shared : List (ℕ × ℕ)) → AreShared first shared
     → Spells (words_at first number most shared) (words_text first shared) (AreFewWords most)
@@ -363,27 +374,41 @@ point_spells h is shared are number wanted = finished
     built_last (λ (p : Point). p.images) (images_spell h.kinds is.kinds) (λ x y i g. refl) λ images _.
     made (record { unit = unit; pc = pc; regs = 0 ∷ regs; brk = brk; words = words; places = places; images = images }))
     (λ p (u, (c, (r, (b, (w, (s, (m, end))))))) same.
-      let regs : p.regs ≡ 0 ∷ drop 1 p.regs = ap (λ (p : Point). p.regs) same in
-      record {
-        unit = (eqb-true _ _ u.1, u.0);
-        pc = (eqb-true _ _ c.1, c.0);
-        registers = regs;
-        count = whole_long p.regs regs r.0;
-        fit = rw regs (all_behind 0 (drop 1 p.regs) (omega arith) (all_of_follow (λ n. n < 2 ^ 32) [] (drop 1 p.regs) 0 r.1));
-        brk = b;
-        words = w.words;
-        few = w.few;
-        places = s;
-        images = m;
-      })
+    let regs : p.regs ≡ 0 ∷ drop 1 p.regs = ap (λ (p : Point). p.regs) same in
+    record {
+      unit = (eqb-true _ _ u.1, u.0);
+      pc = (eqb-true _ _ c.1, c.0);
+      registers = regs;
+      count = whole_long p.regs regs r.0;
+      fit = rw regs (all_behind 0 (drop 1 p.regs) (omega arith) (all_of_follow (λ n. n < 2 ^ 32) [] (drop 1 p.regs) 0 r.1));
+      brk = b;
+      words = w.words;
+      few = w.few;
+      places = s;
+      images = m;
+    })
     (λ p i. (
-      ((i.unit.1, rw i.unit.0 (eq-eqb wanted wanted refl)),
-      ((i.pc.1, eq-eqb (p.pc % 4) 0 i.pc.0),
-      ((rest_long p.regs i.count, follow_of_all (λ n. n < 2 ^ 32) [] (drop 1 p.regs) 0 (all_of_rest p.regs i.fit)),
-      (i.brk,
-      (record { words = i.words; few = i.few },
-      (i.places,
-      (i.images,
-      tt))))))),
+      (
+        (i.unit.1, rw i.unit.0 (eq-eqb wanted wanted refl)),
+        (
+          (i.pc.1, eq-eqb (p.pc % 4) 0 i.pc.0),
+          (
+            (rest_long p.regs i.count, follow_of_all (λ n. n < 2 ^ 32) [] (drop 1 p.regs) 0 (all_of_rest p.regs i.fit)),
+            (
+              i.brk,
+              (
+                record { words = i.words; few = i.few },
+                (
+                  i.places,
+                  (
+                    i.images,
+                    tt,
+                  ),
+                ),
+              ),
+            ),
+          ),
+        ),
+      ),
       ap (λ (regs : List ℕ). let q : Point = record { unit = p.unit; pc = p.pc; regs = regs; brk = p.brk; words = p.words; places = p.places; images = p.images } in q) i.registers,
     ))

@@ -276,10 +276,10 @@ number_spells w bound wide = record {
       let long : length text ≡ byte_len w = wide.long n in
       let enough : byte_len w ≤ length (text ++ rest) = omega (arith, length-append text rest) in
       let step : (place' : ℕ) → place' ≡ place + length text
-          → cond false (Err (faults.Truncated (place + length (text ++ rest))))
-          (let r : Result (ℕ × Spot) LibraryFault = Ok (from_le_bytes w text, record { place = place'; rest = rest }) in r)
-          ≡ Ok (n, record { place = place + length text; rest = rest }) =
-          λ place' same. rw (wide.read n below, same) refl in
+      → cond false (Err (faults.Truncated (place + length (text ++ rest))))
+      (let r : Result (ℕ × Spot) LibraryFault = Ok (from_le_bytes w text, record { place = place'; rest = rest }) in r)
+      ≡ Ok (n, record { place = place + length text; rest = rest }) =
+      λ place' same. rw (wide.read n below, same) refl in
       rw (le-ltb (length (text ++ rest)) (byte_len w) enough, take_at text rest (byte_len w) long, drop_at text rest (byte_len w) long)
       (step (place + byte_len w) (omega (arith, long)));
 }

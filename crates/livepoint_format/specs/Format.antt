@@ -204,6 +204,13 @@ is_run most own size before run =
     && (nat_le (run.0 + run.1) size
     && nat_le (own + sum_by (λ r. r.1) before + run.1) most))
 
+-- own pairs and runs of a point that has at most so many words
+pub record AreParts (most : ℕ) (shared : List (ℕ × ℕ)) (p : Parts) : Type 0 where
+  pub few_own : length p.own ≤ most
+  pub few_runs : length p.runs ≤ most
+  pub own : Follow (IsPair (is_own shared)) [] p.own
+  pub runs : Follow (IsPair (is_run most (length p.own) (length shared))) [] p.runs
+
 -- a snapshot of this shape that a record of less than 2^63 references may have
 pub record IsSnap (g : Shape) (s : Recency) : Type 0 where
   pub shape : s.shape ≡ g

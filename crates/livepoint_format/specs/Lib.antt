@@ -4,3 +4,4 @@ pub mod Shared
 pub mod Format
 pub mod Decoding
 pub mod Growing
+pub mod Laws
