@@ -17,10 +17,11 @@ use Rattle.hierarchy.specs.declared.places.Places.{Places}
 use Rattle.hierarchy.specs.Config.{IsCacheShape, IsTlbShape, ArePlaces}
 use Rattle.live_words.specs.Follow.{Follow}
 use Rattle.live_words.specs.Words.{IsPair}
+use Rattle.live_points.specs.Kinds.{is_among}
 use Rattle.livepoint_format.specs.declared.fault.LibraryFault.{LibraryFault}
 use Rattle.livepoint_format.specs.Reading.{Reader, done, ◌>>=◌, number, judged, demanded, items, counted}
 use Rattle.livepoint_format.specs.Values.{Head}
-use Rattle.livepoint_format.specs.Format.{byte, word, long, pair, magic, geometry, scheme_number, kind, geometries, kinds_text, head, table, header, is_first, within, is_heap, design_of, same_kind, IsNewKind, IsHeader, ranks, AreShared}
+use Rattle.livepoint_format.specs.Format.{byte, word, long, pair, magic, geometry, scheme_number, kind, geometries, kinds_text, head, table, header, is_first, within, is_heap, design_of, IsNewKind, IsHeader, ranks, AreShared}
 use Rattle.livepoint_format.specs.Decoding.{bad_field, field, zero_byte, pair_at, geometry_at, is_cache_line, is_page, geometries_at, scheme_of, kind_read, kind_after, kinds_count, is_count, counts, head_at, shared_after, table_at, header_at}
 use Rattle.livepoint_format.proofs.Spells.{Spells, Builds, built, built_by, built_last, finished, said_so, made, number_spells, judged_spells, demanded_spells, items_spell, counted_spell, IsWide, wide8, wide32, wide64}
 
@@ -182,7 +183,7 @@ kind_spells = finished
 
 new_kind_spells : (before : List PredictorKind) → Spells (kind_after before) kind (IsNewKind before)
 new_kind_spells before =
-    said_so (judged_spells (λ k. not (list_any (same_kind k) before)) bad_field kind_spells)
+    said_so (judged_spells (λ k. not (is_among k before)) bad_field kind_spells)
     (λ k i. record { kind = i.0; new = turned _ i.1 })
     (λ k i. (i.kind, ap not i.new))
     (λ k i. refl)

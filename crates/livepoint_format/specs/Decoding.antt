@@ -18,12 +18,13 @@ use Rattle.recency_record.specs.Recency.{Recency}
 use Rattle.recency_record.specs.Faults.{belongs, is_no_later}
 use Rattle.hierarchy.specs.declared.places.Places.{Places}
 use Rattle.live_words.specs.Words.{rises}
+use Rattle.live_points.specs.Kinds.{is_among}
 use Rattle.livepoint_format.specs.declared.fault.LibraryFault.{LibraryFault}
 use Rattle.livepoint_format.specs.declared.fault.LibraryFault.TheVariants as faults
 use Rattle.livepoint_format.specs.Reading.{Spot, Reader, done, ◌>>=◌, number, judged, demanded, items, counted, starts_at}
 use Rattle.livepoint_format.specs.Values.{Head, Point, Whole}
 use Rattle.livepoint_format.specs.Shared.{Parts, words_of, are_apart}
-use Rattle.livepoint_format.specs.Format.{magic, end_word, within, is_heap, is_first, same_kind, kind_at, ranks, is_own, is_run, most_words, unit_of}
+use Rattle.livepoint_format.specs.Format.{magic, end_word, within, is_heap, is_first, kind_at, ranks, is_own, is_run, most_words, unit_of}
 
 -- a number that a test refuses is a bad field
 abbrev pub bad_field : ℕ → LibraryFault
@@ -79,7 +80,7 @@ kind_read = do
 
 -- a kind that repeats one before it is a bad field at its first byte
 abbrev pub kind_after : List PredictorKind → Reader PredictorKind
-kind_after before = judged (λ k. not (list_any (same_kind k) before)) bad_field kind_read
+kind_after before = judged (λ k. not (is_among k before)) bad_field kind_read
 
 unfoldable pub kinds_count : Reader ℕ
 kinds_count = do

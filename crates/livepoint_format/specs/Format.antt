@@ -18,6 +18,7 @@ use Rattle.recency_record.specs.Faults.{sets_fault}
 use Rattle.hierarchy.specs.declared.places.Places.{Places}
 use Rattle.hierarchy.specs.Config.{ArePlaces}
 use Rattle.live_words.specs.Follow.{last_of, Follow}
+use Rattle.live_points.specs.Kinds.{is_among}
 use Rattle.live_words.specs.Words.{rises, IsPair, AreWords}
 use Rattle.livepoint_format.specs.Values.{Head, Point, Whole}
 use Rattle.livepoint_format.specs.Shared.{Parts, parts_of, place_in}
@@ -138,21 +139,10 @@ unit_of h k = sampled_unit (design_of h) (slice_index (order_of h.points h.seed)
 abbrev pub most_words : Head → ℕ → ℕ
 most_words h unit = 2 * (window_of (design_of h) unit).len
 
-abbrev pub same_scheme : Scheme → Scheme → Bool
-same_scheme Bimodal Bimodal = true
-same_scheme Gshare Gshare = true
-same_scheme Bimodal Gshare = false
-same_scheme Gshare Bimodal = false
-
-abbrev pub same_kind : PredictorKind → PredictorKind → Bool
-same_kind one other =
-    same_scheme one.scheme other.scheme
-    && ((one.bits == other.bits) && ((one.target_log == other.target_log) && (one.depth == other.depth)))
-
 -- a kind that differs from those before it
 pub record IsNewKind (before : List PredictorKind) (k : PredictorKind) : Type 0 where
   pub kind : IsKind k
-  pub new : list_any (same_kind k) before ≡ false
+  pub new : is_among k before ≡ false
 
 -- each field is in its range
 pub record IsHeader (h : Head) : Type 0 where

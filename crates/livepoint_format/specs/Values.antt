@@ -2,9 +2,8 @@
 use Rattle.std.specs.Prelude.{ℕ, List}
 use Rattle.lru_plain.specs.Shape.{Shape}
 use Rattle.predictor.specs.declared.kind.PredictorKind.{PredictorKind}
-use Rattle.predictor.specs.Tables.{Tables}
-use Rattle.recency_record.specs.Recency.{Recency}
 use Rattle.hierarchy.specs.declared.places.Places.{Places}
+use Rattle.live_points.specs.declared.point.LivePoint.{LivePoint}
 
 -- the version of the bytes, the length of the run, the number of points, the design of the sample without a
 -- budget, where the heap begins, the shapes of the records and the kinds of the images
@@ -21,16 +20,9 @@ pub record Head : Type 0 where
   pub places : Places Shape
   pub kinds : List PredictorKind
 
--- a unit, the state in which its window starts, the words that the window uses, and what caches, TLBs and
--- predictors know there
-pub record Point : Type 0 where
-  pub unit : ℕ
-  pub pc : ℕ
-  pub regs : List ℕ
-  pub brk : ℕ
-  pub words : List (ℕ × ℕ)
-  pub places : Places Recency
-  pub images : List Tables
+-- a live-point, as contracts see it
+abbrev pub Point : Type 0
+Point = LivePoint
 
 pub record Whole : Type 0 where
   pub head : Head
