@@ -1,8 +1,8 @@
 -- What each element of a list is by itself, and behind those before it.
-use Rattle.std.proofs.Common.{◌≡◌, ℕ, zero, suc, ◌+◌, ◌<◌, Bool, true, List, [], ◌∷◌, ◌++◌, length, get_or, All, refl, sym, ap, subst, arith, append-nil, length-append}
+use Rattle.std.proofs.Common.{◌≡◌, ℕ, zero, suc, ◌+◌, ◌<◌, Bool, true, List, [], ◌∷◌, ◌++◌, length, get_or, All, refl, sym, ap, subst, arith, append-nil, length-append, ◌-◌, ◌∙◌, slice_get}
 use Rattle.std.specs.List.{AllPass, AllByRecursion}
 use Rattle.std.proofs.lemmas.List.Elements.{All-from_get_or, All-get_or}
-use Rattle.live_words.specs.Follow.{Follow}
+use Rattle.live_words.specs.Follow.{Follow, last_of}
 use Rattle.live_words.proofs.FollowLemmas.{follow_at, follow_by}
 
 pub follow_weaker : {A : Type 0} (May Might : List A → A → Type 0) → ((before : List A) (x : A) → May before x → Might before x)
@@ -15,3 +15,13 @@ all_of_follow P before xs d follow = All-from_get_or P xs d (λ i h. follow_at (
 
 pub follow_of_all : {A : Type 0} (P : A → Type 0) (before xs : List A) (d : A) → All P xs → Follow (λ before x. P x) before xs
 follow_of_all P before xs d all = follow_by (λ before x. P x) before xs d (λ i h. All-get_or P xs i d h all)
+
+pub last_is : {A : Type 0} (xs : List A) → last_of xs ≡ slice_get xs (length xs - 1)
+last_is [] = refl
+last_is (x ∷ []) = refl
+last_is (x ∷ y ∷ xs) =
+    let step : suc (suc (length xs)) - 1 ≡ suc (suc (length xs) - 1) = omega arith in
+    rw step (later x y xs ∙ last_is (y ∷ xs))
+  where
+    later : {A : Type 0} (x y : A) (xs : List A) → last_of (x ∷ y ∷ xs) ≡ last_of (y ∷ xs)
+    later x y xs = refl

@@ -7,11 +7,12 @@ use Rattle.predictor.specs.declared.kind.PredictorKind.{PredictorKind}
 use Rattle.hierarchy.specs.declared.places.Places.{Places}
 use Rattle.livepoint_format.specs.declared.fault.LibraryFault.{LibraryFault}
 use Rattle.livepoint_format.specs.declared.fault.LibraryFault.TheVariants as faults
+use Rattle.livepoint_format.specs.declared.entries.Which.{Which}
 use Rattle.livepoint_format.specs.Reading.{Spot, Reader, done, onward, ◌>>=◌, number, judged, demanded, items, counted}
 use Rattle.livepoint_format.specs.Growing.{longer, Stays, Grows}
 use Rattle.livepoint_format.specs.Values.{Head}
 use Rattle.livepoint_format.specs.Format.{is_first}
-use Rattle.livepoint_format.specs.Decoding.{bad_field, field, pair_at, geometry_at, geometries_at, kind_read, kind_after, kinds_count, head_at, table_at, header_at, parts_at, merged_at, words_at, Which, entry_after, set_after, snapshot_at, snapshots_at, target_after, image_at, point_at, whole_at}
+use Rattle.livepoint_format.specs.Decoding.{bad_field, field, pair_at, geometry_at, geometries_at, kind_read, kind_after, kinds_count, head_at, table_at, header_at, parts_at, merged_at, words_at, entry_after, set_at, set_after, snapshot_at, snapshots_at, target_after, image_at, point_at, whole_at}
 
 -- more bytes don't mend it
 abbrev is_final : LibraryFault → Bool
@@ -235,7 +236,7 @@ grows_entry which limit number before =
     grows_done _
 
 grows_set : (which : Which) (limit : ℕ) (before : _) → Grows (set_after which limit before)
-unfolding set_after
+unfolding set_at
 grows_set which limit before =
     grows_counted (grows_judged _ _ (λ place. refl) (grows_number w8)) λ entries. grows_entry which limit (length before) entries
 

@@ -17,13 +17,14 @@ use Rattle.hierarchy.specs.declared.places.Places.{Places}
 use Rattle.hierarchy.specs.Config.{IsCacheShape, IsTlbShape, ArePlaces}
 use Rattle.live_words.specs.Follow.{Follow}
 use Rattle.live_words.specs.Words.{IsPair}
-use Rattle.live_points.specs.Kinds.{is_among}
+use Rattle.live_points.specs.Kinds.{is_among, may_join}
 use Rattle.livepoint_format.specs.declared.fault.LibraryFault.{LibraryFault}
-use Rattle.livepoint_format.specs.Reading.{Reader, done, ◌>>=◌, number, judged, demanded, items, counted}
+use Rattle.livepoint_format.specs.Reads.{IsBytes}
+use Rattle.livepoint_format.specs.Reading.{Spot, Reader, done, ◌>>=◌, number, judged, demanded, items, counted}
 use Rattle.livepoint_format.specs.Values.{Head}
 use Rattle.livepoint_format.specs.Format.{byte, word, long, pair, magic, geometry, scheme_number, kind, geometries, kinds_text, head, table, header, is_first, within, is_heap, design_of, IsNewKind, IsHeader, ranks, AreShared}
 use Rattle.livepoint_format.specs.Decoding.{bad_field, field, zero_byte, pair_at, geometry_at, is_cache_line, is_page, geometries_at, scheme_of, kind_read, kind_after, kinds_count, is_count, counts, head_at, shared_after, table_at, header_at}
-use Rattle.livepoint_format.proofs.Spells.{Spells, Builds, built, built_by, built_last, finished, said_so, made, number_spells, judged_spells, demanded_spells, items_spell, counted_spell, IsWide, wide8, wide32, wide64}
+use Rattle.livepoint_format.proofs.Spells.{Took, Spells, Builds, built, built_by, built_last, finished, said_so, made, number_spells, judged_spells, demanded_spells, items_spell, counted_spell, IsWide, wide8, wide32, wide64}
 
 -- ---- fields
 
@@ -366,3 +367,23 @@ header_spells = finished
     made (h, shared))
     (λ f i e. record { header = i.0; shared = i.1.0 })
     (λ f i. ((i.header, (i.shared, tt)), refl))
+
+pub ranked_of_shared : (first : Bool) (shared : List (ℕ × ℕ)) → AreShared first shared → Follow (IsPair ranks) [] shared
+ranked_of_shared true shared are = rw are tt
+ranked_of_shared false shared are = are.1
+
+pub few_of_shared : (first : Bool) (shared : List (ℕ × ℕ)) → AreShared first shared → length shared < 2 ^ 32
+few_of_shared true shared are = rw are (omega arith)
+few_of_shared false shared are = omega (arith, are.0)
+
+-- a table that was read
+pub shared_of_read : (first : Bool) (at : Spot) (shared : List (ℕ × ℕ)) (after : Spot) → IsBytes at.rest → table_at first at ≡ Ok (shared, after)
+    → AreShared first shared
+shared_of_read first at shared after bytes read = ((table_spells first).takes at shared after bytes read).is_in
+
+-- a new kind joins others where there is room
+pub joins : (kind : PredictorKind) (kinds after : List PredictorKind) (added : Bool) → length kinds < 4 → is_among kind kinds ≡ false
+    → added ≡ may_join kind kinds → after ≡ cond added (kinds ++ kind ∷ []) kinds → after ≡ kinds ++ kind ∷ []
+joins kind kinds after added few new is same =
+    let joined : added ≡ true = is ∙ rw (lt-ltb (length kinds) 4 few, new) refl in
+    same ∙ rw joined refl

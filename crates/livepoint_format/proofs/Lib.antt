@@ -8,3 +8,5 @@ pub mod HeaderLaws
 pub mod PointLaws
 pub mod Growth
 pub mod LibraryLaws
+pub mod Loops
+pub mod EntriesLemmas

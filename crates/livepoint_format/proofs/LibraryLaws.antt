@@ -7,13 +7,14 @@ use Rattle.live_words.specs.Follow.{Follow}
 use Rattle.live_words.specs.Words.{IsPair}
 use Rattle.livepoint_format.specs.declared.fault.LibraryFault.{LibraryFault}
 use Rattle.livepoint_format.specs.declared.fault.LibraryFault.TheVariants as faults
+use Rattle.livepoint_format.specs.Reads.{IsBytes}
 use Rattle.livepoint_format.specs.Reading.{Spot, Reader, done, ◌>>=◌, items, starts_at}
 use Rattle.livepoint_format.specs.Values.{Head, Point, Whole}
 use Rattle.livepoint_format.specs.Format.{word, pair, end_word, head, table, header, point, spelling, is_first, unit_of, ranks, IsHeader, IsTable, AreShared, IsPoint, IsWhole, IsLibrary}
 use Rattle.livepoint_format.specs.Decoding.{bad_field, field, header_at, point_at, point_after, whole_at, ended, library_of}
 use Rattle.livepoint_format.specs.Growing.{longer, Stays, Grows}
 use Rattle.livepoint_format.specs.Laws.{AreBytes}
-use Rattle.livepoint_format.proofs.Spells.{IsBytes, Took, Spells, built, built_by, built_last, finished, made, items_spell, wide32}
+use Rattle.livepoint_format.proofs.Spells.{Took, Spells, built, built_by, built_last, finished, made, items_spell, wide32}
 use Rattle.livepoint_format.proofs.HeaderLaws.{IsFront, header_spells, test_spells}
 use Rattle.livepoint_format.proofs.PointLaws.{point_spells}
 use Rattle.livepoint_format.proofs.Growth.{whole_grows}

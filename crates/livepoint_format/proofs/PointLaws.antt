@@ -24,11 +24,12 @@ use Rattle.hierarchy.specs.Config.{ArePlaces}
 use Rattle.live_words.specs.Follow.{last_of, Follow}
 use Rattle.live_words.specs.Words.{rises, IsPair, AreWords}
 use Rattle.live_words.proofs.FollowLemmas.{follow_at, follow_by}
+use Rattle.livepoint_format.specs.declared.entries.Which.{Which}
 use Rattle.livepoint_format.specs.Reading.{Reader, done, ◌>>=◌, number, judged, demanded, items, counted}
 use Rattle.livepoint_format.specs.Values.{Head, Point}
 use Rattle.livepoint_format.specs.Shared.{Parts, parts_of, words_of, are_apart}
 use Rattle.livepoint_format.specs.Format.{byte, word, long, pair, parts_text, words_text, entry, set, snapshot, snapshots, image, point, is_first, within, design_of, most_words, IsHeader, ranks, AreShared, is_own, is_run, AreParts, IsSnap, AreSnaps, kind_at, IsImageOf, AreImages, IsPoint, IsNewKind}
-use Rattle.livepoint_format.specs.Decoding.{bad_field, field, pair_at, word_after, own_after, run_after, parts_at, merged_at, words_at, Which, bad_record, entry_after, entry_count, set_after, snapshot_at, snapshots_at, target_after, counter_after, address_after, image_at, image_after, register_after, registers_count, point_at}
+use Rattle.livepoint_format.specs.Decoding.{bad_field, field, pair_at, word_after, own_after, run_after, parts_at, merged_at, words_at, bad_record, entry_after, entry_count, set_at, set_after, snapshot_at, snapshots_at, target_after, counter_after, address_after, image_at, image_after, register_after, registers_count, point_at}
 use Rattle.livepoint_format.proofs.Spells.{Spells, Builds, built, built_by, built_last, finished, said_so, made, number_spells, judged_spells, items_spell, few_items_spell, counted_spell, IsWide, wide8, wide32, wide64}
 use Rattle.livepoint_format.proofs.Follows.{follow_weaker, all_of_follow, follow_of_all}
 use Rattle.livepoint_format.proofs.Parts.{words_apart, words_again, parts_are, parts_again, words_are, words_few}
@@ -48,7 +49,7 @@ below_line n line h =
     let most : 2 ^ (32 - line) ≤ 2 ^ 32 = pow-le-pow_right {n = 2} (omega arith) (let k : 32 - line ≤ 32 = omega arith in k) in
     omega arith
 
-entry_spells : (which : Which) (limit number : ℕ) → limit < 2 ^ 63 → (before : List Entry)
+pub entry_spells : (which : Which) (limit number : ℕ) → limit < 2 ^ 63 → (before : List Entry)
     → Spells (entry_after which limit number before) entry (IsNextEntry which.shape limit number before)
 unfolding entry_after entry word long
 entry_spells which limit number small before = finished
@@ -97,9 +98,9 @@ set_few g limit number es none =
       | inr few ↦ few
     ]
 
-set_spells : (which : Which) → IsShape which.shape → (limit : ℕ) → limit < 2 ^ 63 → (before : List (List Entry))
+pub set_spells : (which : Which) → IsShape which.shape → (limit : ℕ) → limit < 2 ^ 63 → (before : List (List Entry))
     → Spells (set_after which limit before) set (IsNextSet which.shape limit before)
-unfolding set_after set byte
+unfolding set_at set byte
 set_spells which shape limit small before =
     said_so (counted_spell (entry_spells which limit (length before) small)
     (judged_spells (λ n. leb n which.shape.ways) _ (number_spells w8 256 wide8)))
@@ -116,7 +117,7 @@ set_spells which shape limit small before =
 push_long : {A : Type 0} (before : List A) (x : A) → length (before ++ x ∷ []) ≡ length before + 1
 push_long before x = length-append before (x ∷ [])
 
-sets_of_follow : (g : Shape) (limit : ℕ) (before sets : List (List Entry)) → Follow (IsNextSet g limit) before sets
+pub sets_of_follow : (g : Shape) (limit : ℕ) (before sets : List (List Entry)) → Follow (IsNextSet g limit) before sets
     → sets_fault g limit (length before) sets ≡ None
 unfolding sets_fault
 sets_of_follow g limit before [] follow = refl

@@ -9,11 +9,8 @@ use Rattle.std.proofs.Common.{take-append-drop, length-take-le, ◌%◌}
 use Rattle.live_words.specs.Follow.{Follow}
 use Rattle.livepoint_format.specs.declared.fault.LibraryFault.{LibraryFault}
 use Rattle.livepoint_format.specs.declared.fault.LibraryFault.TheVariants as faults
+use Rattle.livepoint_format.specs.Reads.{IsBytes}
 use Rattle.livepoint_format.specs.Reading.{Spot, Reader, done, onward, ◌>>=◌, number, judged, demanded, items, counted}
-
--- each number is one of a byte
-pub record IsBytes (bytes : List ℕ) : Type 0 where
-  pub each : (i : ℕ) → get_or bytes i 0 < 256
 
 -- a value was read from this spot to another
 pub record Took {A : Type 0} (spelling : A → List ℕ) (IsIn : A → Type 0) (at : Spot) (x : A) (after : Spot) : Type 0 where
@@ -219,13 +216,13 @@ wide64 = record {
   read = from_le_bytes-to_le_bytes_8;
 }
 
-bytes_front : (n : ℕ) (bytes : List ℕ) → ((i : ℕ) → get_or bytes i 0 < 256) → (i : ℕ) → get_or (take n bytes) i 0 < 256
+pub bytes_front : (n : ℕ) (bytes : List ℕ) → ((i : ℕ) → get_or bytes i 0 < 256) → (i : ℕ) → get_or (take n bytes) i 0 < 256
 bytes_front zero bytes each i = omega arith
 bytes_front (suc n) [] each i = omega arith
 bytes_front (suc n) (b ∷ bytes) each zero = each 0
 bytes_front (suc n) (b ∷ bytes) each (suc i) = bytes_front n bytes (λ k. each (suc k)) i
 
-bytes_back : (n : ℕ) (bytes : List ℕ) → ((i : ℕ) → get_or bytes i 0 < 256) → (i : ℕ) → get_or (drop n bytes) i 0 < 256
+pub bytes_back : (n : ℕ) (bytes : List ℕ) → ((i : ℕ) → get_or bytes i 0 < 256) → (i : ℕ) → get_or (drop n bytes) i 0 < 256
 bytes_back zero bytes each i = each i
 bytes_back (suc n) [] each i = omega arith
 bytes_back (suc n) (b ∷ bytes) each i = bytes_back n bytes (λ k. each (suc k)) i

@@ -21,6 +21,7 @@ use Rattle.live_words.specs.Words.{rises}
 use Rattle.live_points.specs.Kinds.{is_among}
 use Rattle.livepoint_format.specs.declared.fault.LibraryFault.{LibraryFault}
 use Rattle.livepoint_format.specs.declared.fault.LibraryFault.TheVariants as faults
+use Rattle.livepoint_format.specs.declared.entries.Which.{Which}
 use Rattle.livepoint_format.specs.Reading.{Spot, Reader, done, ◌>>=◌, number, judged, demanded, items, counted, starts_at}
 use Rattle.livepoint_format.specs.Values.{Head, Point, Whole}
 use Rattle.livepoint_format.specs.Shared.{Parts, words_of, are_apart}
@@ -172,12 +173,6 @@ unfoldable pub words_at : Bool → ℕ → ℕ → List (ℕ × ℕ) → Reader 
 words_at true point most shared = counted (field w32 (within 0 most)) (word_after point)
 words_at false point most shared = merged_at point most shared
 
--- which record of which point is read
-pub record Which : Type 0 where
-  pub point : ℕ
-  pub place : ℕ
-  pub shape : Shape
-
 abbrev pub bad_record : Which → RecordFault → ℕ → LibraryFault
 bad_record which fault _ = faults.BadRecord which.point which.place fault
 
@@ -193,8 +188,11 @@ entry_after which limit set before = do
 abbrev pub entry_count : Which → ℕ → Reader ℕ
 entry_count which set = judged (λ n. nat_le n which.shape.ways) (bad_record which (TooMany set 0)) (number w8)
 
-unfoldable pub set_after : Which → ℕ → List (List Entry) → Reader (List Entry)
-set_after which limit before = counted (entry_count which (length before)) (entry_after which limit (length before))
+unfoldable pub set_at : Which → ℕ → ℕ → Reader (List Entry)
+set_at which limit set = counted (entry_count which set) (entry_after which limit set)
+
+abbrev pub set_after : Which → ℕ → List (List Entry) → Reader (List Entry)
+set_after which limit before = set_at which limit (length before)
 
 unfoldable pub snapshot_at : Which → Reader Recency
 snapshot_at which = do

@@ -5,3 +5,6 @@ pub mod Format
 pub mod Decoding
 pub mod Growing
 pub mod Laws
+pub mod Reads
+pub mod Views
+pub mod Entries
