@@ -10,3 +10,5 @@ pub mod Growth
 pub mod LibraryLaws
 pub mod Loops
 pub mod EntriesLemmas
+pub mod SnapshotLemmas
+pub mod ImageLemmas

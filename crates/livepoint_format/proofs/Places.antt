@@ -221,3 +221,111 @@ pub pairs_are_words : (table : List (ℕ × ℕ)) → AreRanked None table → (
 pairs_are_words table are [] below = tt
 pairs_are_words table are (place ∷ places) below =
     (ranked_words None table place are (below 0 (omega arith)), pairs_are_words table are places (λ i h. below (suc i) (omega arith)))
+
+-- ---- searching
+
+-- the pair stands in front of another
+abbrev pub stands_before : ℕ × ℕ → ℕ × ℕ → Bool
+stands_before p q = is_behind (Some p) q
+
+not_next : (p q : ℕ × ℕ) → stands_before p q ≡ false → IsBefore p q → Unit {0} → ⊥
+not_next p q e (inl less) _ = true≢false (sym (ap (λ (b : Bool). b || (eqb p.0 q.0 && ltb p.1 q.1)) (lt-ltb p.0 q.0 less)) ∙ e)
+not_next p q e (inr both) _ =
+    let is : stands_before p q ≡ true = go (ltb p.0 q.0) in
+    true≢false (sym is ∙ e)
+  where
+    go : (b : Bool) → (b || (eqb p.0 q.0 && ltb p.1 q.1)) ≡ true
+    go true = refl
+    go false = rw (eq-eqb p.0 q.0 both.0, lt-ltb p.1 q.1 both.1) refl
+
+before_self : (p : ℕ × ℕ) → IsBefore p p → ⊥
+before_self p (inl a) = absurd (omega arith)
+before_self p (inr a) = absurd (omega (arith, a.1))
+
+-- a pair before another is before all behind that
+rank_before : (last : Option (ℕ × ℕ)) (table : List (ℕ × ℕ)) (i j : ℕ) → AreRanked last table → i < j → j < length table
+    → IsBefore (get_or table i (0, 0)) (get_or table j (0, 0))
+rank_before last [] i j are less h = absurd (omega arith)
+rank_before last (p ∷ table) zero zero are less h = absurd (omega arith)
+rank_before last (p ∷ table) zero (suc j) are less h = behind_all p table j are.1 (omega arith)
+rank_before last (p ∷ table) (suc i) zero are less h = absurd (omega arith)
+rank_before last (p ∷ table) (suc i) (suc j) are less h = rank_before (Some p) table i j are.1 (omega arith) (omega arith)
+
+-- what stands in front of a place is before the pair, and what stands there isn't
+pub record IsSplit (table : List (ℕ × ℕ)) (pair : ℕ × ℕ) (low high : ℕ) : Type 0 where
+  pub within : high ≤ length table
+  pub ordered : low ≤ high
+  pub front : (i : ℕ) → i < low → stands_before (get_or table i (0, 0)) pair ≡ true
+  pub back : (i : ℕ) → high ≤ i → i < length table → stands_before (get_or table i (0, 0)) pair ≡ false
+
+module _ (table : List (ℕ × ℕ)) (pair : ℕ × ℕ) (ranked : Follow (IsPair ranks) [] table) where
+  table_order : AreRanked None table
+  table_order = ranked_of_follow [] table ranked
+
+  pub split_high : (low high middle : ℕ) → IsSplit table pair low high → low ≤ middle → middle < high
+      → stands_before (get_or table middle (0, 0)) pair ≡ true → IsSplit table pair (middle + 1) high
+  split_high low high middle split least most test = record {
+    within = split.within;
+    ordered = omega arith;
+    front = λ i h.
+        elim (cases_eq i middle) [
+          | inl same ↦ rw same test
+          | inr other ↦
+              let within : middle < length table = omega (arith, split.within) in
+              let rank : IsBefore (get_or table i (0, 0)) (get_or table middle (0, 0)) = rank_before None table i middle table_order (omega (arith, other)) within in
+              test_of_before (get_or table i (0, 0)) pair
+              (before_more (get_or table i (0, 0)) (get_or table middle (0, 0)) pair rank (next_of_test (Some (get_or table middle (0, 0))) pair test))
+        ];
+    back = split.back;
+  }
+    where
+      test_of_before : (p q : ℕ × ℕ) → IsBefore p q → stands_before p q ≡ true
+      test_of_before p q is =
+          elim (cases_Bool (stands_before p q)) [
+            | inl yes_ ↦ yes_
+            | inr no_ ↦ absurd (not_next p q no_ is tt)
+          ]
+
+  pub split_low : (low high middle : ℕ) → IsSplit table pair low high → low ≤ middle → middle < high
+      → stands_before (get_or table middle (0, 0)) pair ≡ false → IsSplit table pair low middle
+  split_low low high middle split least most test = record {
+    within = omega (arith, split.within);
+    ordered = least;
+    front = split.front;
+    back = λ i past h.
+        elim (cases_eq i middle) [
+          | inl same ↦ rw same test
+          | inr other ↦
+              elim (cases_Bool (stands_before (get_or table i (0, 0)) pair)) [
+                | inl e ↦
+                    let rank : IsBefore (get_or table middle (0, 0)) (get_or table i (0, 0)) = rank_before None table middle i table_order (omega (arith, other)) h in
+                    absurd (not_next (get_or table middle (0, 0)) pair test
+                    (before_more (get_or table middle (0, 0)) (get_or table i (0, 0)) pair rank (next_of_test (Some (get_or table i (0, 0))) pair e)) tt)
+                | inr e ↦ e
+              ]
+        ];
+  }
+
+  pub place_found : (low : ℕ) → low < length table → get_or table low (0, 0) ≡ pair → Some low ≡ place_in table pair
+  place_found low h is = sym (ap (place_in table) (sym is) ∙ found table low table_order h)
+
+  pub place_missing : (low : ℕ) → IsSplit table pair low low → (low < length table → get_or table low (0, 0) ≡ pair → ⊥) → None ≡ place_in table pair
+  place_missing low split other = go (place_in table pair) refl
+    where
+      go : (o : Option ℕ) → place_in table pair ≡ o → None ≡ o
+      go None e = refl
+      go (Some i) e =
+          let at : (i < length table) × (get_or table i (0, 0) ≡ pair) = place_of table pair i e in
+          elim (cases_lt i low) [
+            | inl front ↦
+                let test : stands_before pair pair ≡ true = ap (λ (p : ℕ × ℕ). stands_before p pair) (sym at.1) ∙ split.front i front in
+                absurd (before_self pair (next_of_test (Some pair) pair test))
+            | inr past ↦
+                elim (cases_eq i low) [
+                  | inl same ↦ absurd (other (omega (arith, at.0)) (ap (λ (n : ℕ). get_or table n (0, 0)) (sym same) ∙ at.1))
+                  | inr above ↦
+                      let rank : IsBefore (get_or table low (0, 0)) (get_or table i (0, 0)) = rank_before None table low i table_order (omega (arith, above)) at.0 in
+                      let test : stands_before (get_or table low (0, 0)) pair ≡ false = split.back low (omega arith) (omega (arith, at.0)) in
+                      absurd (not_next (get_or table low (0, 0)) pair test (rw at.1 at rank) tt)
+                ]
+          ]

@@ -163,7 +163,7 @@ snapshots_spell number shapes are = finished
 
 -- ---- images
 
-counter_spells : (before : List ℕ) → Spells (counter_after before) byte (λ n. is_counter n ≡ true)
+pub counter_spells : (before : List ℕ) → Spells (counter_after before) byte (λ n. is_counter n ≡ true)
 unfolding byte
 counter_spells before = small_spells w8 256 wide8 is_counter (λ n e. let h : n ≤ 3 = leb-true _ _ e in omega arith)
 

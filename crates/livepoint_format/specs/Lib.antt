@@ -8,3 +8,4 @@ pub mod Laws
 pub mod Reads
 pub mod Views
 pub mod Entries
+pub mod Image

@@ -1,4 +1,4 @@
-ghost use Rattle.std.specs.Prelude.{◌≡◌, ◌+◌, ◌*◌, ◌<◌, ◌≤◌, ◌^◌, [], length, take, true, ◌==◌, ◌-◌, not, nat_lt, slice_get};
+ghost use Rattle.std.specs.Prelude.{◌≡◌, ◌+◌, ◌*◌, ◌<◌, ◌≤◌, ◌^◌, [], length, take, true, ◌==◌, ◌-◌, not, nat_lt, slice_get, IfOk};
 ghost use Rattle.std.specs.List.{list_any};
 ghost use Rattle.std.specs.Int.{w32, w64};
 ghost use Rattle.smarts_base.specs.declared.refusal.Refusal.TheVariants.{Fault};
@@ -23,6 +23,18 @@ pub struct Which {
     /// From 0 to 4, in the order of caches and TLBs.
     pub place: u8,
     pub shape: Geometry,
+}
+
+impl Which {
+    pub fn new(point: u32, place: u8, shape: Geometry) -> Which
+        ensures { result ≡ record { point = point; place = place; shape = shape } }
+    {
+        Which {
+            point,
+            place,
+            shape,
+        }
+    }
 }
 
 /// The bytes of an entry.
@@ -108,6 +120,7 @@ fn one_by_one(
     requires few { count ≤ 16 }
     ensures read { Reads (λ n. take n row.new) result cursor.new (items (entry_after which.now limit set) count [] cursor.old) }
     ensures len { length row.new ≡ length row.old }
+    ensures count { IfOk result (λ n. n ≡ count) }
 {
     for i in 0..count {
         row[i] = entry_after(cursor, which, limit, set, &row[..i])?;
@@ -190,6 +203,7 @@ pub fn entries(
     requires limit { limit < 2 ^ 63 }
     ensures read { Reads (λ n. take n row.new) result cursor.new (items (entry_after which.now limit set) count [] cursor.old) }
     ensures len { length row.new ≡ length row.old }
+    ensures count { IfOk result (λ n. n ≡ count) }
 {
     if at_once(cursor, row, which, limit, set, count) {
         return Ok(count);
