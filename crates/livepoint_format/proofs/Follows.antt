@@ -1,5 +1,7 @@
 -- What each element of a list is by itself, and behind those before it.
 use Rattle.std.proofs.Common.{◌≡◌, ℕ, zero, suc, ◌+◌, ◌<◌, Bool, true, List, [], ◌∷◌, ◌++◌, length, get_or, All, refl, sym, ap, subst, arith, append-nil, length-append, ◌-◌, ◌∙◌, slice_get}
+use Rattle.std.proofs.Common.{Some, take, drop, set, add-one}
+use Rattle.std.proofs.Math.Seq.{take-suc-set}
 use Rattle.std.specs.List.{AllPass, AllByRecursion}
 use Rattle.std.proofs.lemmas.List.Elements.{All-from_get_or, All-get_or}
 use Rattle.live_words.specs.Follow.{Follow, last_of}
@@ -25,3 +27,19 @@ last_is (x ∷ y ∷ xs) =
   where
     later : {A : Type 0} (x y : A) (xs : List A) → last_of (x ∷ y ∷ xs) ≡ last_of (y ∷ xs)
     later x y xs = refl
+
+pub some_at : {A : Type 0} (xs : List A) (i : ℕ) (x d : A) → slice_get xs i ≡ Some x → get_or xs i d ≡ x
+some_at [] i x d e = absurd cc
+some_at (y ∷ ys) zero x d e = cc
+some_at (y ∷ ys) (suc i) x d e = some_at ys i x d e
+
+-- numbers behind the first, one by one
+pub rest_more : (ns : List ℕ) (i x : ℕ) → i + 1 < length ns → take (i + 1) (drop 1 (set ns (i + 1) x)) ≡ take i (drop 1 ns) ++ x ∷ []
+rest_more [] i x h = absurd (omega arith)
+rest_more (n ∷ ns) i x h = rw add-one (take-suc-set ns i x (omega arith))
+
+pub first_stays : (ns : List ℕ) (i x : ℕ) → ns ≡ 0 ∷ drop 1 ns → set ns (i + 1) x ≡ 0 ∷ drop 1 (set ns (i + 1) x)
+first_stays [] i x e = absurd cc
+first_stays (n ∷ ns) i x e =
+    let zero_ : n ≡ 0 = cc in
+    rw (add-one, zero_) refl

@@ -10,7 +10,8 @@ use Rattle.live_words.specs.Words.{is_above, rises, IsPair, AreWords}
 use Rattle.live_words.proofs.FollowLemmas.{last_or-push}
 use Rattle.livepoint_format.specs.Shared.{Parts, place_in, parts_of, runs_of, stretch, words_of, are_apart, merged}
 use Rattle.livepoint_format.specs.Format.{begins, ranks, is_own, is_run, AreParts}
-use Rattle.livepoint_format.proofs.Merges.{IsWord, AreRising, merged_filters, own_of_merged, shared_of_merged, length_merged, all_merged, words_of_rising, rising_of_apart, apart_of_rising}
+use Rattle.livepoint_format.specs.Rising.{IsWord, AreRising}
+use Rattle.livepoint_format.proofs.Merges.{merged_filters, own_of_merged, shared_of_merged, length_merged, all_merged, words_of_rising, rising_of_apart, apart_of_rising}
 use Rattle.livepoint_format.proofs.Runs.{places_of_runs, ArePlaces, IsRun, AreRuns, places_of_runs_of, runs_of_places, runs_are, sum_of_runs, pairs_at, pairs_of_runs, places_below}
 use Rattle.livepoint_format.proofs.Places.{AreRanked, ranked_of_follow, places_rise, pairs_of_places, places_of_shared, places_of_pairs, pairs_are_shared, pairs_are_words}
 
@@ -96,7 +97,7 @@ after_run before run = ap next_place (last_or-push before run None)
 abbrev words_in : List (ℕ × ℕ) → ℕ
 words_in runs = sum_by (λ r. r.1) runs
 
-one_more : (before : List (ℕ × ℕ)) (run : ℕ × ℕ) → words_in (before ++ run ∷ []) ≡ words_in before + run.1
+pub one_more : (before : List (ℕ × ℕ)) (run : ℕ × ℕ) → words_in (before ++ run ∷ []) ≡ words_in before + run.1
 one_more before run = sum_by-append (λ r. r.1) before (run ∷ []) ∙ omega (arith, sum_by-cons (λ (r : ℕ × ℕ). r.1) run [])
 
 record AreRunsWithin (most own size : ℕ) (before runs : List (ℕ × ℕ)) : Type 0 where
@@ -272,3 +273,16 @@ module _ (shared : List (ℕ × ℕ)) (ranked : Follow (IsPair ranks) [] shared)
 
 pub words_apart : (ws : List (ℕ × ℕ)) → AreWords ws → are_apart ws ≡ true
 words_apart ws words = apart_of_rising 0 ws (rising_of_words [] ws words)
+
+run_inside : (least size : ℕ) (runs : List (ℕ × ℕ)) → AreRuns least size runs
+    → (i : ℕ) → i < length runs → (get_or runs i (0, 0)).0 + (get_or runs i (0, 0)).1 ≤ size
+run_inside least size [] are i h = absurd (omega arith)
+run_inside least size (run ∷ runs) are zero h = are.0.within
+run_inside least size (run ∷ runs) are (suc i) h = run_inside (suc (run.0 + run.1)) size runs are.1 i (omega arith)
+
+pub runs_inside : (most : ℕ) (shared : List (ℕ × ℕ)) (p : Parts) → Follow (IsPair ranks) [] shared → AreParts most shared p
+    → (i : ℕ) → i < length p.runs → (get_or p.runs i (0, 0)).0 + (get_or p.runs i (0, 0)).1 ≤ length shared
+runs_inside most shared p ranked are = run_inside 0 (length shared) p.runs (runs_within shared ranked most p are).are
+
+pub own_rises : (most : ℕ) (shared : List (ℕ × ℕ)) (p : Parts) → Follow (IsPair ranks) [] shared → AreParts most shared p → AreRising 0 p.own
+own_rises most shared p ranked are = (own_within shared ranked most p are).0

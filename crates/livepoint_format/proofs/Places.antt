@@ -8,7 +8,7 @@ use Rattle.live_words.specs.Words.{IsPair}
 use Rattle.live_words.proofs.FollowLemmas.{last_or-push}
 use Rattle.livepoint_format.specs.Shared.{same, place_from, place_in}
 use Rattle.livepoint_format.specs.Format.{is_behind, ranks}
-use Rattle.livepoint_format.proofs.Merges.{IsWord, AreRising}
+use Rattle.livepoint_format.specs.Rising.{IsWord, AreRising}
 use Rattle.livepoint_format.proofs.Runs.{ArePlaces, pairs_at}
 
 -- one pair stands before another
@@ -87,7 +87,7 @@ low_before last (p ∷ table) zero (suc j) are le h = before_low p (get_or table
 low_before last (p ∷ table) (suc i) zero are le h = absurd (omega arith)
 low_before last (p ∷ table) (suc i) (suc j) are le h = low_before (Some p) table i j are.1 (omega arith) (omega arith)
 
-same_self : (p : ℕ × ℕ) → same p p ≡ true
+pub same_self : (p : ℕ × ℕ) → same p p ≡ true
 same_self p = rw (eq-eqb p.0 p.0 refl, eq-eqb p.1 p.1 refl) refl
 
 -- each pair is found at its place
@@ -110,7 +110,7 @@ pub record IsPlace (at : ℕ) (table : List (ℕ × ℕ)) (p : ℕ × ℕ) (i : 
   pub below : i < at + length table
   pub is : get_or table (i - at) (0, 0) ≡ p
 
-pair_of_same : (p q : ℕ × ℕ) → same p q ≡ true → p ≡ q
+pub pair_of_same : (p q : ℕ × ℕ) → same p q ≡ true → p ≡ q
 pair_of_same p q e =
     let both : (eqb p.0 q.0 ≡ true) × (eqb p.1 q.1 ≡ true) = and_parts _ _ e in
     let first : p.0 ≡ q.0 = eqb-true _ _ both.0 in

@@ -276,7 +276,7 @@ image_spells kind is = finished
       ap (λ (k : PredictorKind). let u : Tables = record { kind = k; counters = t.counters; history = t.history; targets = t.targets; stack = t.stack } in u) i.kind,
     ))
 
-kind_is : (kinds : List PredictorKind) → Follow IsNewKind [] kinds → (i : ℕ) → i < length kinds → IsKind (kind_at kinds i)
+pub kind_is : (kinds : List PredictorKind) → Follow IsNewKind [] kinds → (i : ℕ) → i < length kinds → IsKind (kind_at kinds i)
 kind_is kinds follow i h = (follow_at IsNewKind [] kinds i _ follow h).kind
 
 images_spell : (kinds : List PredictorKind) → Follow IsNewKind [] kinds
@@ -289,7 +289,7 @@ images_spell kinds follow =
 
 -- ---- words
 
-parts_spell : (number most : ℕ) → most < 2 ^ 32 → (shared : List (ℕ × ℕ)) → Spells (parts_at number most shared) parts_text (AreParts most shared)
+pub parts_spell : (number most : ℕ) → most < 2 ^ 32 → (shared : List (ℕ × ℕ)) → Spells (parts_at number most shared) parts_text (AreParts most shared)
 unfolding parts_at parts_text word
 parts_spell number most small shared = finished
     (built (λ (p : Parts). length p.own) (within_spells w32 (2 ^ 32) wide32 0 most small) (λ x y i g. g.1.0.0) λ owns _.

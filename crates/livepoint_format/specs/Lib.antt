@@ -9,3 +9,5 @@ pub mod Reads
 pub mod Views
 pub mod Entries
 pub mod Image
+pub mod Rising
+pub mod LibraryView

@@ -4,6 +4,8 @@ use Rattle.live_points.specs.declared.header.Header.{Header}
 use Rattle.live_words.specs.Follow.{Follow}
 use Rattle.live_words.specs.Words.{IsPair}
 use Rattle.livepoint_format.specs.declared.shared.Shared.TheInside.{Inside as SharedInside}
+use Rattle.livepoint_format.specs.declared.words.WordParts.{WordParts}
+use Rattle.livepoint_format.specs.Shared.{Parts}
 use Rattle.livepoint_format.specs.Values.{Head}
 use Rattle.livepoint_format.specs.Format.{ranks}
 
@@ -27,3 +29,6 @@ head_of h = record {
 pub record IsSharedTable (fields : SharedInside) : Type 0 where
   pub ranked : Follow (IsPair ranks) [] fields.pairs.items
   pub few : length fields.pairs.items < 2 ^ 32
+
+abbrev pub parts_view : WordParts → Parts
+parts_view p = record { own = p.own.items; runs = p.runs.items }

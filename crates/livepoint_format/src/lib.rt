@@ -2,14 +2,20 @@
 #![tactic(auto)]
 
 mod cursor;
+mod decoding;
 mod entries;
 mod fault;
 mod header;
 mod image;
 mod laws;
+mod library;
+mod point;
 mod shared;
 mod snapshot;
 mod words;
 
+pub use decoding::{decode_header, decode_point};
 pub use fault::LibraryFault;
+pub use library::Library;
+pub use shared::Shared;
 pub use laws::{growth_laws, spelling_laws, word_laws};
