@@ -12,3 +12,4 @@ pub mod Loops
 pub mod EntriesLemmas
 pub mod SnapshotLemmas
 pub mod ImageLemmas
+pub mod DecodingLemmas

@@ -75,7 +75,7 @@ readable l i = record {
   points = i.whole.points;
 }
 
-table_of_shared : (first : Bool) (shared : List (ℕ × ℕ)) → AreShared first shared → IsTable first shared
+pub table_of_shared : (first : Bool) (shared : List (ℕ × ℕ)) → AreShared first shared → IsTable first shared
 table_of_shared true shared are = are
 table_of_shared false shared are = are.1
 

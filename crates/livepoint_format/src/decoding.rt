@@ -1,4 +1,4 @@
-ghost use Rattle.std.specs.Prelude.{◌≡◌, ◌+◌, ◌<◌, ◌≤◌, ◌^◌, ◌==◌, [], length, IfOk, OnOk, IfErr};
+ghost use Rattle.std.specs.Prelude.{◌≡◌, ◌+◌, ◌<◌, ◌≤◌, ◌^◌, ◌==◌, [], length, IfOk, OnOk, IfErr, ℕ, slice_index};
 ghost use Rattle.std.specs.Int.{w32};
 ghost use Rattle.smarts_base.specs.Outcome.{Answers};
 ghost use Rattle.sample_design.specs.Order.{order_of};
@@ -73,6 +73,8 @@ fn end(cursor: &mut Cursor) -> Answer<u32>
 fn unit_at(header: &Header, order: &Order, k: u32) -> u32
     requires header { IsHeader (head_of header.now) }
     requires order { order.now ≡ order_of header.now.points header.now.design.seed }
+    requires len { length order.now ≡ header.now.points }
+    requires below { (k : ℕ) → k < header.now.points → slice_index order.now k < header.now.points }
     requires k { k < header.now.points }
     ensures { result ≡ unit_of (head_of header.now) k }
 {
@@ -90,6 +92,8 @@ fn points(
     requires header { IsHeader (head_of header.now) }
     requires table { AreShared (is_first (head_of header.now)) shared.now }
     requires order { order.now ≡ order_of header.now.points header.now.design.seed }
+    requires len { length order.now ≡ header.now.points }
+    requires below { (k : ℕ) → k < header.now.points → slice_index order.now k < header.now.points }
     ensures { Reads (λ v. v.items) result cursor.new (items (point_after (head_of header.now) shared.now) header.now.points [] cursor.old) }
 {
     let mut points = Vec::new(alloc);
@@ -100,4 +104,49 @@ fn points(
         points.push(read)?;
     }
     Ok(points)
+}
+
+/// A header, its table, its points and the end.
+#[tactic(auto, unfolding(crate::specs::Decoding::whole_at))]
+fn whole(alloc: Global, cursor: &mut Cursor) -> Answer<Library>
+    ensures { Reads (λ l. l) result cursor.new (whole_at cursor.old) }
+{
+    let _bytes = cursor.rest();
+    let (head, shared) = header(alloc, cursor)?;
+    let _rest = cursor.rest();
+    let order = visit_order(alloc, head.points, head.design.seed)?;
+    let points = points(alloc, cursor, &head, &shared, &order)?;
+    let _letters = end(cursor)?;
+    Ok(Library::from_points(head, shared, points))
+}
+
+#[tactic(auto, unfolding(crate::specs::Decoding::library_of))]
+fn all(alloc: Global, bytes: &[u8]) -> Answer<Library>
+    ensures { Answers (λ l. l) result (library_of bytes.now) }
+{
+    if bytes.len() > MOST_BYTES {
+        return Err(Refusal::Fault(LibraryFault::TooLarge {
+            length: bytes.len() as u64,
+        }));
+    }
+    let mut cursor = Cursor::new(0, bytes);
+    let library = whole(alloc, &mut cursor)?;
+    if cursor.rest().is_empty() {
+        Ok(library)
+    } else {
+        Err(Refusal::Fault(LibraryFault::TrailingBytes {
+            at: cursor.place(),
+        }))
+    }
+}
+
+/// Reads a library of either version from its bytes, or answers the first fault. After want of memory nothing is
+/// left behind.
+pub fn decode_library(alloc: Global, bytes: &[u8]) -> Answer<Library>
+    ensures exact { Answers (λ l. l) result (library_of bytes.now) }
+
+    // A library comes only from its own spelling.
+    ensures found { IfOk result (λ l. IsLibrary l × (bytes.now ≡ spelling l)) }
+{
+    all(alloc, bytes)
 }

@@ -14,7 +14,7 @@ mod shared;
 mod snapshot;
 mod words;
 
-pub use decoding::{decode_header, decode_point};
+pub use decoding::{decode_header, decode_library, decode_point};
 pub use fault::LibraryFault;
 pub use library::Library;
 pub use shared::Shared;
