@@ -134,9 +134,7 @@ fn all(alloc: Global, bytes: &[u8]) -> Answer<Library>
     if cursor.rest().is_empty() {
         Ok(library)
     } else {
-        Err(Refusal::Fault(LibraryFault::TrailingBytes {
-            at: cursor.place(),
-        }))
+        Err(Refusal::Fault(LibraryFault::TrailingBytes { at: cursor.place() }))
     }
 }
 

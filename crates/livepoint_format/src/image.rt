@@ -184,7 +184,5 @@ pub fn image(alloc: Global, cursor: &mut Cursor, kind: PredictorKind) -> Answer<
     let history = history(cursor, kind)?;
     let targets = targets(alloc, cursor, kind, power(kind.target_log))?;
     let stack = stack(cursor, kind.depth)?;
-    Ok(PredictorImage::from_sound(
-        kind, counters, history, targets, stack,
-    ))
+    Ok(PredictorImage::from_sound(kind, counters, history, targets, stack))
 }

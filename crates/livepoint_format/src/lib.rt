@@ -12,10 +12,12 @@ mod library;
 mod point;
 mod shared;
 mod snapshot;
+#[cfg(test)]
+mod tests;
 mod words;
 
 pub use decoding::{decode_header, decode_library, decode_point};
 pub use fault::LibraryFault;
+pub use laws::{growth_laws, spelling_laws, word_laws};
 pub use library::Library;
 pub use shared::Shared;
-pub use laws::{growth_laws, spelling_laws, word_laws};

@@ -50,13 +50,7 @@ fn entry_count(cursor: &mut Cursor, which: &Which, set: u32) -> Answer<u8>
 
 /// The entries of a set, into the front of a row.
 #[tactic(auto, unfolding(crate::specs::Decoding::set_at))]
-fn set(
-    cursor: &mut Cursor,
-    row: &mut [Entry],
-    which: &Which,
-    limit: u64,
-    set: u32,
-) -> Answer<usize>
+fn set(cursor: &mut Cursor, row: &mut [Entry], which: &Which, limit: u64, set: u32) -> Answer<usize>
     requires room { 16 ≤ length row.old }
     requires limit { limit < 2 ^ 63 }
     ensures read { Reads (λ n. take n row.new) result cursor.new (set_at which.now limit set cursor.old) }
@@ -68,7 +62,13 @@ fn set(
 }
 
 /// So many sets.
-fn sets(alloc: Global, cursor: &mut Cursor, which: &Which, limit: u64, count: u32) -> Answer<DealtRow>
+fn sets(
+    alloc: Global,
+    cursor: &mut Cursor,
+    which: &Which,
+    limit: u64,
+    count: u32,
+) -> Answer<DealtRow>
     requires few { count ≤ 4096 }
     requires limit { limit < 2 ^ 63 }
     ensures read { Reads (λ s. dealt s.counts.items s.entries.items) result cursor.new (items (set_after which.now limit) count [] cursor.old) }

@@ -23,7 +23,7 @@ loop-number-preserved c =
     let long : length (take c.in_ok-len.len c.set.new.row) ≡ c.in_ok-len.len =
     length-take-le c.in_ok-len.len c.set.new.row (omega (arith, c.in_ok-len.ensures.few, c.in_ok-len.ensures.len, c.loop-number.invariant.row)) in
     let more : dealt c.push.new.self.items c.extend_from_slice.new.self.items
-        ≡ dealt c.loop-number.counts.items c.loop-number.entries.items ++ take c.in_ok-len.len c.set.new.row ∷ [] =
+    ≡ dealt c.loop-number.counts.items c.loop-number.entries.items ++ take c.in_ok-len.len c.set.new.row ∷ [] =
     rw (c.in_ok-push.ensures.items, c.in_ok-extend_from_slice.ensures.items)
     (dealt_more c.loop-number.counts.items c.loop-number.entries.items (take c.in_ok-len.len c.set.new.row) c.in_ok-len.len c.loop-number.invariant.sum long) in
     record {
