@@ -41,6 +41,18 @@ impl Model for PredictorImage {
 /// The entry for no jump.
 const NO_TARGET: (u32, u32) = (1, 0);
 
+fn counters_of(alloc: Global, counters: &[u8]) -> Result<Vec<u8>, NoMemory>
+    ensures { IfOk result (λ row. row.items ≡ counters.now) }
+{
+    Ok(counters.to_vec(alloc)?)
+}
+
+fn targets_of(alloc: Global, targets: &[(u32, u32)]) -> Result<Vec<(u32, u32)>, NoMemory>
+    ensures { IfOk result (λ row. row.items ≡ targets.now) }
+{
+    Ok(targets.to_vec(alloc)?)
+}
+
 impl PredictorImage {
     /// The tables before any event.
     #[tactic(auto, using(crate::proofs::Ranges::empty_in_range))]
@@ -59,26 +71,28 @@ impl PredictorImage {
         })
     }
 
-    /// An image of these parts, whose ranges were judged.
-    fn of_parts(
-        alloc: Global,
+    /// The image with parts that are in their ranges. It keeps the tables that are handed in.
+    pub fn from_sound(
         kind: PredictorKind,
-        counters: &[u8],
+        counters: Vec<u8>,
         history: u32,
-        targets: &[(u32, u32)],
-        stack: &[u32],
-    ) -> Result<PredictorImage, NoMemory>
-        requires { IsImage (tables_with kind counters.now history targets.now stack.now) }
-        ensures { IfOk result (λ image.
-            image ≡ tables_with kind counters.now history targets.now stack.now) }
+        targets: Vec<(u32, u32)>,
+        stack: ArrayVec<u32, 16>,
+    ) -> PredictorImage
+        requires kind { IsKind kind }
+        requires counters { length counters.items ≡ 2 ^ kind.bits }
+        requires targets { length targets.items ≡ 2 ^ kind.target_log }
+        requires stack { length stack.items ≤ kind.depth }
+        requires ranges { IsInRange (tables_with kind counters.items history targets.items stack.items) }
+        ensures { result ≡ tables_with kind counters.items history targets.items stack.items }
     {
-        Ok(PredictorImage {
+        PredictorImage {
             kind,
-            counters: counters.to_vec(alloc)?,
+            counters,
             history,
-            targets: targets.to_vec(alloc)?,
-            stack: stack::of(stack),
-        })
+            targets,
+            stack,
+        }
     }
 
     /// The image with these parts, or the first part that is outside its range, with the first such
@@ -108,22 +122,23 @@ impl PredictorImage {
         if let Some(fault) = first_fault(kind, counters, history, targets, stack) {
             return Err(Refusal::Fault(fault));
         }
-        let image = PredictorImage::of_parts(alloc, kind, counters, history, targets, stack)?;
-        Ok(image)
+        let counters = counters_of(alloc, counters)?;
+        let targets = targets_of(alloc, targets)?;
+        Ok(PredictorImage::from_sound(kind, counters, history, targets, stack::of(stack)))
     }
 
     /// Another image of the same tables.
     pub(crate) fn copied(&self) -> Result<PredictorImage, NoMemory>
         ensures { IfOk result (λ image. image ≡ self.now) }
     {
-        PredictorImage::of_parts(
-            *self.counters.allocator(),
-            self.kind,
-            self.counters.as_slice(),
-            self.history,
-            self.targets.as_slice(),
-            self.stack.as_slice(),
-        )
+        let alloc = *self.counters.allocator();
+        Ok(PredictorImage {
+            kind: self.kind,
+            counters: self.counters.as_slice().to_vec(alloc)?,
+            history: self.history,
+            targets: self.targets.as_slice().to_vec(alloc)?,
+            stack: stack::of(self.stack.as_slice()),
+        })
     }
 
     /// Becomes equal to another image of this kind.

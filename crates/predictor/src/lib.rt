@@ -14,5 +14,5 @@ mod tests;
 
 pub use image::PredictorImage;
 pub use kind::{PredictorKind, Scheme};
-pub use parts::{BadPart, is_counter, is_history, is_instruction, is_source, is_target};
+pub use parts::{BadPart, is_counter, is_entry, is_history, is_instruction, is_source, is_target};
 pub use predictor::Predictor;

@@ -74,7 +74,7 @@ pub fn is_target(pc: u32, target: u32) -> bool
 }
 
 /// Whether an entry may stand at this place of the target table.
-fn is_entry(kind: PredictorKind, place: u32, entry: (u32, u32)) -> bool
+pub fn is_entry(kind: PredictorKind, place: u32, entry: (u32, u32)) -> bool
     requires { IsKind kind }
     ensures { result ≡ is_entry kind place entry }
 {

@@ -8,7 +8,7 @@ use Rattle.recency_record.specs.declared.entry.Entry.{Entry}
 use Rattle.recency_record.specs.declared.fault.RecordFault.{RecordFault}
 use Rattle.recency_record.specs.declared.fault.RecordFault.TheVariants.{TooMany, WrongSet, Repeated, TimeRange, NotDescending}
 use Rattle.std.specs.List.{AllByRecursion}
-use Rattle.recency_record.specs.Recency.{IsRecency, AreSets, IsSet, IsEntry, IsRanked}
+use Rattle.recency_record.specs.Recency.{Recency, IsRecency, AreSets, IsSet, IsEntry, IsRanked}
 use Rattle.recency_record.specs.Faults.{belongs, is_no_later, block_fault, time_fault, entry_fault, entries_fault, set_fault, sets_fault, dealt}
 use Rattle.recency_record.proofs.Eachs.{each_append, each_both, each_weaker}
 use Rattle.recency_record.proofs.Ranks.{ranked_push}
@@ -19,11 +19,11 @@ neither None b h = (refl, h)
 neither (Some x) b h = absurd (let e : Some x ≡ None = h in cc)
 
 -- an entry that breaks no rule
-record Passes (g : Shape) (now number : ℕ) (before : List Entry) (e : Entry) : Type 0 where
-  home : belongs g number e.block ≡ true
-  new : list_any (λ x. eqb x.block e.block) before ≡ false
-  early : ltb e.time now ≡ true
-  falls : is_no_later (slice_get before (length before - 1)) e.time ≡ false
+pub record Passes (g : Shape) (now number : ℕ) (before : List Entry) (e : Entry) : Type 0 where
+  pub home : belongs g number e.block ≡ true
+  pub new : list_any (λ x. eqb x.block e.block) before ≡ false
+  pub early : ltb e.time now ≡ true
+  pub falls : is_no_later (slice_get before (length before - 1)) e.time ≡ false
 
 block_passes : (g : Shape) (number : ℕ) (before : List Entry) (block : ℕ) → block_fault g number before block ≡ None
     → (belongs g number block ≡ true) × (list_any (λ x. eqb x.block block) before ≡ false)
@@ -49,13 +49,17 @@ time_passes now number before time h =
     go true true h = absurd cc
     go true false h = (refl, refl)
 
-passes : (g : Shape) (now number : ℕ) (before : List Entry) (e : Entry) → entry_fault g now number before e ≡ None → Passes g now number before e
+pub passes : (g : Shape) (now number : ℕ) (before : List Entry) (e : Entry) → entry_fault g now number before e ≡ None → Passes g now number before e
 unfolding entry_fault
 passes g now number before e h =
     let both : (block_fault g number before e.block ≡ None) × (time_fault now number before e.time ≡ None) = neither _ _ h in
     let block : (belongs g number e.block ≡ true) × (list_any (λ x. eqb x.block e.block) before ≡ false) = block_passes g number before e.block both.0 in
     let time : (ltb e.time now ≡ true) × (is_no_later (slice_get before (length before - 1)) e.time ≡ false) = time_passes now number before e.time both.1 in
     record { home = block.0; new = block.1; early = time.0; falls = time.1 }
+
+pub passed : (g : Shape) (now number : ℕ) (before : List Entry) (e : Entry) → Passes g now number before e → entry_fault g now number before e ≡ None
+unfolding entry_fault
+passed g now number before e h = rw (h.home, h.new, h.early, h.falls) refl
 
 -- later than the last is later than all
 all_later : (before : List Entry) (e : Entry) → IsRanked before
@@ -196,7 +200,15 @@ sets_none g now number (es ∷ rest) h =
           subst (λ (n : ℕ). IsSet g now n (get_or rest k [])) along (h (suc k) (omega (arith, below)))),
     ) refl
 
--- so there is no fault exactly where all rules are kept
+-- so what holds of every snapshot is no fault
+pub recency_is_sound : (r : Recency) → IsRecency r → sets_fault r.shape r.time 0 r.sets ≡ None
+recency_is_sound r h =
+    sets_none r.shape r.time 0 r.sets
+    (λ k below.
+    let same : k ≡ 0 + k = omega arith in
+    subst (λ (n : ℕ). IsSet r.shape r.time n (get_or r.sets k [])) same (h.sets k (rw h.count at below)))
+
+-- and there is none exactly where all rules are kept
 pub faults_are : (g : Shape) (time : ℕ) (counts : List ℕ) (entries : List Entry) → length counts ≡ sets_of g
     → (sets_fault g time 0 (dealt counts entries) ≡ None) ↔ AreSets g time (dealt counts entries)
 faults_are g time counts entries count = (

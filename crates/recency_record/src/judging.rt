@@ -9,7 +9,7 @@ use lru_plain::Geometry;
 
 /// Whether there is such a block, and it belongs to the set.
 #[tactic(auto, using(crate::proofs::Judgements::block_bound))]
-fn belongs(geometry: Geometry, set: u32, block: u32) -> bool
+pub fn belongs(geometry: Geometry, set: u32, block: u32) -> bool
     ensures { result ≡ belongs geometry set block }
 {
     let bound = 1 << (32 - geometry.line_log());
@@ -19,7 +19,7 @@ fn belongs(geometry: Geometry, set: u32, block: u32) -> bool
 }
 
 /// Whether the entry just before is no later.
-fn is_no_later(before: &[Entry], time: u64) -> bool
+pub fn is_no_later(before: &[Entry], time: u64) -> bool
     ensures { result ≡ is_no_later (slice_get before.now (length before.now - 1)) time }
 {
     match before.last() {
@@ -29,7 +29,7 @@ fn is_no_later(before: &[Entry], time: u64) -> bool
 }
 
 /// Whether the block is that of an entry before.
-fn repeats(before: &[Entry], block: u32) -> bool
+pub fn repeats(before: &[Entry], block: u32) -> bool
     ensures { result ≡ list_any (λ e. e.block == block) before.now }
 {
     before.iter().any(|e| e.block == block)

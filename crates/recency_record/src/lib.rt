@@ -16,7 +16,7 @@ mod tests;
 
 pub use entry::Entry;
 pub use fault::RecordFault;
-pub use judging::{block_fault, time_fault};
+pub use judging::{belongs, block_fault, is_no_later, repeats, time_fault};
 pub use laws::holds_last_uses;
 pub use lists::RecencyLists;
 pub use record::Record;

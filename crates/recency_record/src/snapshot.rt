@@ -38,6 +38,12 @@ impl Model for Snapshot {
     ghost invariant = { IsSnapshot };
 }
 
+fn copied(alloc: Global, entries: &[Entry]) -> Result<Vec<Entry>, NoMemory>
+    ensures { IfOk result (λ row. row.items ≡ entries.now) }
+{
+    Ok(Vec::from_slice(alloc, entries)?)
+}
+
 impl Snapshot {
     /// The snapshot of entries that are dealt out to the sets, so many to each in turn, or the first fault
     /// in the order of the sets, and then of their places.
@@ -59,23 +65,27 @@ impl Snapshot {
     {
         match first_fault(geometry, time, counts, entries) {
             Some(fault) => Err(Refusal::Fault(fault)),
-            None => Ok(Snapshot::of_row(alloc, geometry, time, counts, entries)?),
+            None => {
+                let row = copied(alloc, entries)?;
+                Ok(Snapshot::from_sound(alloc, geometry, time, counts, row)?)
+            }
         }
     }
 
-    /// The snapshot of entries that break no rule.
-    fn of_row(
+    /// The snapshot of entries that break no rule and are dealt out in the same way. It keeps the row that is
+    /// handed in.
+    pub fn from_sound(
         alloc: Global,
         geometry: Geometry,
         time: u64,
         counts: &[u8],
-        entries: &[Entry],
+        entries: Vec<Entry>,
     ) -> Result<Snapshot, NoMemory>
         requires sets { length counts.now ≡ sets_of geometry }
-        requires entries { sum counts.now ≡ length entries.now }
-        requires sound { sets_fault geometry time 0 (dealt counts.now entries.now) ≡ None }
+        requires entries { sum counts.now ≡ length entries.items }
+        requires sound { sets_fault geometry time 0 (dealt counts.now entries.items) ≡ None }
         ensures { IfOk result (λ snapshot. snapshot
-            ≡ record { shape = geometry; time = time; sets = dealt counts.now entries.now }) }
+            ≡ record { shape = geometry; time = time; sets = dealt counts.now entries.items }) }
     {
         let mut starts = Vec::with_capacity(alloc, geometry.sets() as usize + 1)?;
         let mut start = 0;
@@ -88,7 +98,7 @@ impl Snapshot {
             geometry,
             time,
             starts,
-            entries: Vec::from_slice(alloc, entries)?,
+            entries,
         })
     }
 

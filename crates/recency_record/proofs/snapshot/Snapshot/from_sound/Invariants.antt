@@ -1,6 +1,6 @@
 use Rattle.std.proofs.Common.{◌≡◌, ◌≤◌, ◌+◌, length, take, sum, vec_len, vec_capacity}
 use Rattle.recency_record.specs.Parts.{starts_from}
-use Rattle.recency_record.proofs.snapshot.Snapshot.of_row.Given as goal
+use Rattle.recency_record.proofs.snapshot.Snapshot.from_sound.Given as goal
 
 abbrev pub invariant-loop-count : goal.invariant-loop-count
 invariant-loop-count l = record {

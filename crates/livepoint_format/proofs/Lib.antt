@@ -1,0 +1,15 @@
+pub mod Spells
+pub mod Runs
+pub mod Merges
+pub mod Places
+pub mod Parts
+pub mod Follows
+pub mod HeaderLaws
+pub mod PointLaws
+pub mod Growth
+pub mod LibraryLaws
+pub mod Loops
+pub mod EntriesLemmas
+pub mod SnapshotLemmas
+pub mod ImageLemmas
+pub mod DecodingLemmas

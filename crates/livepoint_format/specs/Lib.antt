@@ -1,0 +1,13 @@
+pub mod Reading
+pub mod Values
+pub mod Shared
+pub mod Format
+pub mod Decoding
+pub mod Growing
+pub mod Laws
+pub mod Reads
+pub mod Views
+pub mod Entries
+pub mod Image
+pub mod Rising
+pub mod LibraryView

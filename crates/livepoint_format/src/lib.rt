@@ -1,0 +1,23 @@
+//! The bytes of a library of live-points.
+#![tactic(auto)]
+
+mod cursor;
+mod decoding;
+mod entries;
+mod fault;
+mod header;
+mod image;
+mod laws;
+mod library;
+mod point;
+mod shared;
+mod snapshot;
+#[cfg(test)]
+mod tests;
+mod words;
+
+pub use decoding::{decode_header, decode_library, decode_point};
+pub use fault::LibraryFault;
+pub use laws::{growth_laws, spelling_laws, word_laws};
+pub use library::Library;
+pub use shared::Shared;
