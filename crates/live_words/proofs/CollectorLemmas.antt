@@ -20,7 +20,7 @@ use Rattle.live_words.specs.Follow.{last_of}
 use Rattle.live_words.specs.Words.{is_above, rises, IsPair, AreWords, memory_of, pairs_of}
 use Rattle.live_words.proofs.FollowLemmas.{follow_at, follow_by}
 use Rattle.live_words.proofs.WordsLemmas.{last_taken}
-use Rattle.live_words.proofs.MemoryLemmas.{held_first, same_words, addr_at, Rise, words_are_held}
+use Rattle.live_words.proofs.MemoryLemmas.{held_first, same_words, addr_at, AreRising, words_are_held}
 
 -- what a map's look-up finds in its entries
 pub looked_up : (addr : ℕ) (pairs : List (ℕ × ℕ)) → lookup (nat_eq addr) pairs ≡ find nat_cmp addr pairs
@@ -128,7 +128,7 @@ all_words pairs words i d h =
     and_parts (pair.0 % 4 == 0) (is_above (last_of (take i pairs)) pair.0) stands.passes in
     record { addr = stands.addr; value = stands.value; aligned = eqb-true (pair.0 % 4) 0 tests.0 }
 
-pub rising_words : (pairs : List (ℕ × ℕ)) → All IsWord pairs → Rise pairs → AreWords pairs
+pub rising_words : (pairs : List (ℕ × ℕ)) → All IsWord pairs → AreRising pairs → AreWords pairs
 rising_words pairs words rise =
     follow_by (IsPair rises) [] pairs (0, 0)
     (λ i h.
@@ -136,7 +136,7 @@ rising_words pairs words rise =
     record { addr = word.addr; value = word.value; passes = rises_at pairs rise i h word.aligned })
   where
     rises_at :
-        (pairs : List (ℕ × ℕ)) → Rise pairs → (i : ℕ) → i < length pairs → addr_at pairs i % 4 ≡ 0
+        (pairs : List (ℕ × ℕ)) → AreRising pairs → (i : ℕ) → i < length pairs → addr_at pairs i % 4 ≡ 0
         → rises (take i pairs) (slice_index_or pairs i (0, 0)) ≡ true
     rises_at pairs rise zero h aligned = rw (eq-eqb (addr_at pairs 0 % 4) 0 aligned) refl
     rises_at pairs rise (suc i) h aligned =

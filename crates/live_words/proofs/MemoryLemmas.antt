@@ -29,8 +29,8 @@ abbrev pub addr_at : List (ℕ × ℕ) → ℕ → ℕ
 addr_at pairs i = (slice_index_or pairs i (0, 0)).0
 
 -- each address is below the next
-abbrev pub Rise : List (ℕ × ℕ) → Type 0
-Rise pairs = (i : ℕ) → i + 1 < length pairs → addr_at pairs i < addr_at pairs (i + 1)
+abbrev pub AreRising : List (ℕ × ℕ) → Type 0
+AreRising pairs = (i : ℕ) → i + 1 < length pairs → addr_at pairs i < addr_at pairs (i + 1)
 
 is_less : (x y : ℕ) → x < y → T (is_lt (nat_cmp x y))
 is_less x y h =
@@ -41,13 +41,13 @@ both : (a b : Bool) → T a → T b → T (a && b)
 both true b p q = q
 both false b p q = p
 
-pub rise_behind : (p : ℕ × ℕ) (pairs : List (ℕ × ℕ)) → Rise (p ∷ pairs) → Rise pairs
+pub rise_behind : (p : ℕ × ℕ) (pairs : List (ℕ × ℕ)) → AreRising (p ∷ pairs) → AreRising pairs
 rise_behind p pairs rise i h =
     let later : suc i + 1 ≡ suc (i + 1) = omega arith in
     rw later at (rise (suc i) (omega arith))
 
 below_by :
-    (low : ℕ) (pairs : List (ℕ × ℕ)) → Rise pairs → (0 < length pairs → low < addr_at pairs 0)
+    (low : ℕ) (pairs : List (ℕ × ℕ)) → AreRising pairs → (0 < length pairs → low < addr_at pairs 0)
     → T (below_all nat_cmp low pairs)
 below_by low [] rise first = tt
 below_by low (p ∷ pairs) rise first =
@@ -58,14 +58,14 @@ below_by low (p ∷ pairs) rise first =
     let next : p.0 < addr_at pairs 0 = rise 0 (omega arith) in
     omega arith))
 
-pub sorted_by : (pairs : List (ℕ × ℕ)) → Rise pairs → T (is_sorted nat_cmp pairs)
+pub sorted_by : (pairs : List (ℕ × ℕ)) → AreRising pairs → T (is_sorted nat_cmp pairs)
 sorted_by [] rise = tt
 sorted_by (p ∷ pairs) rise =
     both (below_all nat_cmp p.0 pairs) (is_sorted nat_cmp pairs)
     (below_by p.0 pairs (rise_behind p pairs rise) (λ h. rise 0 (omega arith)))
     (sorted_by pairs (rise_behind p pairs rise))
 
-pub words_rising : (pairs : List (ℕ × ℕ)) → AreWords pairs → Rise pairs
+pub words_rising : (pairs : List (ℕ × ℕ)) → AreWords pairs → AreRising pairs
 words_rising pairs words i h =
     let stands : IsPair rises (take (i + 1) pairs) (slice_index_or pairs (i + 1) (0, 0)) =
     follow_at (IsPair rises) [] pairs (i + 1) (0, 0) words h in

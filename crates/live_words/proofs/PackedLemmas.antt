@@ -10,7 +10,7 @@ use Rattle.rv_exec.proofs.MemoryLemmas.{find_first, word_at-stored}
 use Rattle.rv_exec.specs.Memory.{word_at, stored}
 use Rattle.live_words.specs.Laws.{PackedAreHeld}
 use Rattle.live_words.specs.Packed.{packed_pair, pair_of, ArePacked, held_words}
-use Rattle.live_words.proofs.MemoryLemmas.{held_first, same_words, addr_at, Rise, rise_behind, words_rising}
+use Rattle.live_words.proofs.MemoryLemmas.{held_first, same_words, addr_at, AreRising, rise_behind, words_rising}
 use Rattle.live_words.specs.Collector.{IsWord}
 use Rattle.live_words.specs.Words.{AreWords, memory_of}
 use Rattle.live_words.proofs.CollectorLemmas.{rising_words, all_words}
@@ -23,7 +23,7 @@ pair_in : (packed : List ℕ) (i : ℕ) → i < length packed → get_or (map pa
 pair_in packed i h = get_or-map pair_of packed i 0 (0, 0) h
 
 rise_far :
-    (pairs : List (ℕ × ℕ)) → Rise pairs → (i j : ℕ) → i < j → j < length pairs → addr_at pairs i < addr_at pairs j
+    (pairs : List (ℕ × ℕ)) → AreRising pairs → (i j : ℕ) → i < j → j < length pairs → addr_at pairs i < addr_at pairs j
 rise_far pairs rise i zero h within = absurd (omega arith)
 rise_far pairs rise i (suc j) h within =
     let last : addr_at pairs j < addr_at pairs (suc j) = rw add-one at (rise j (omega arith)) in
@@ -49,7 +49,7 @@ packed_rise packed i j are h within =
 -- ---- what is found among pairs whose addresses rise
 
 found_at :
-    (pairs : List (ℕ × ℕ)) (i addr : ℕ) → Rise pairs → i < length pairs → addr_at pairs i ≡ addr
+    (pairs : List (ℕ × ℕ)) (i addr : ℕ) → AreRising pairs → i < length pairs → addr_at pairs i ≡ addr
     → find nat_cmp addr pairs ≡ Some (slice_index_or pairs i (0, 0)).1
 found_at [] i addr rise h is = absurd (omega arith)
 found_at (p ∷ pairs) zero addr rise h is =
@@ -70,7 +70,7 @@ found_nowhere (p ∷ pairs) addr absent =
 
 -- a value written at a place where its address stands
 found_set :
-    (pairs : List (ℕ × ℕ)) (i addr value q : ℕ) → Rise pairs → i < length pairs → addr_at pairs i ≡ addr
+    (pairs : List (ℕ × ℕ)) (i addr value q : ℕ) → AreRising pairs → i < length pairs → addr_at pairs i ≡ addr
     → find nat_cmp q (set pairs i (addr, value)) ≡ (if q == addr then Some value else find nat_cmp q pairs)
 found_set [] i addr value q rise h is = absurd (omega arith)
 found_set (p ∷ pairs) zero addr value q rise h is =
@@ -102,7 +102,7 @@ found_set (p ∷ pairs) (suc i) addr value q rise h is =
 
 -- ---- the memory of packed pairs
 
-rising : (packed : List ℕ) → ArePacked packed → Rise (map pair_of packed)
+rising : (packed : List ℕ) → ArePacked packed → AreRising (map pair_of packed)
 rising packed are = words_rising (map pair_of packed) are
 
 pub loaded :

@@ -14,41 +14,41 @@ use Rattle.rv_exec.specs.Memory.{Words, word_at, stored}
 use Rattle.live_words.specs.declared.windows.Touch.{Touch}
 use Rattle.live_words.specs.Collector.{with_first, IsWord}
 use Rattle.live_words.specs.Windows.{WindowsValue, window_at, window_after, with_touch, with_window}
-use Rattle.live_words.specs.WindowsView.{word_of, covers, words_in, noted, AreNoted, AreBegun}
+use Rattle.live_words.specs.WindowsView.{word_of, is_in_range, words_in, count_noted, AreNoted, AreBegun}
 use Rattle.indexmap.specs.IndexMap.{IndexMap, get}
 use Rattle.live_words.specs.Words.{memory_of}
 use Rattle.live_words.proofs.CollectorLemmas.{first_at, with_first_more}
 use Rattle.live_words.proofs.MemoryLemmas.{same_words}
 
--- ---- which windows a touch covers
+-- ---- which windows a touch is_in_range
 
-covers_between : (k : ℕ) (t : Touch) → t.from ≤ k → k < t.to → covers k t ≡ true
+covers_between : (k : ℕ) (t : Touch) → t.from ≤ k → k < t.to → is_in_range k t ≡ true
 covers_between k t low high = rw (le-leb t.from k low, lt-ltb k t.to high) refl
 
-covers_below : (k : ℕ) (t : Touch) → k < t.from → covers k t ≡ false
+covers_below : (k : ℕ) (t : Touch) → k < t.from → is_in_range k t ≡ false
 covers_below k t h = rw (lt-leb t.from k h) refl
 
-covers_above : (k : ℕ) (t : Touch) → t.to ≤ k → covers k t ≡ false
+covers_above : (k : ℕ) (t : Touch) → t.to ≤ k → is_in_range k t ≡ false
 covers_above k t h = and_right (nat_le t.from k) (nat_lt k t.to) (le-ltb k t.to h)
 
 -- ---- one more touch
 
-kept_more : (touches : List Touch) (t : Touch) (k : ℕ) → covers k t ≡ true
-    → filter (covers k) (touches ++ t ∷ []) ≡ filter (covers k) touches ++ t ∷ []
-kept_more touches t k h = filter-append (covers k) touches (t ∷ []) ∙ rw h refl
+kept_more : (touches : List Touch) (t : Touch) (k : ℕ) → is_in_range k t ≡ true
+    → filter (is_in_range k) (touches ++ t ∷ []) ≡ filter (is_in_range k) touches ++ t ∷ []
+kept_more touches t k h = filter-append (is_in_range k) touches (t ∷ []) ∙ rw h refl
 
-kept_same : (touches : List Touch) (t : Touch) (k : ℕ) → covers k t ≡ false
-    → filter (covers k) (touches ++ t ∷ []) ≡ filter (covers k) touches
-kept_same touches t k h = filter-append (covers k) touches (t ∷ []) ∙ rw h (append-nil (filter (covers k) touches))
+kept_same : (touches : List Touch) (t : Touch) (k : ℕ) → is_in_range k t ≡ false
+    → filter (is_in_range k) (touches ++ t ∷ []) ≡ filter (is_in_range k) touches
+kept_same touches t k h = filter-append (is_in_range k) touches (t ∷ []) ∙ rw h (append-nil (filter (is_in_range k) touches))
 
-words_more : (touches : List Touch) (t : Touch) (k : ℕ) → covers k t ≡ true
+words_more : (touches : List Touch) (t : Touch) (k : ℕ) → is_in_range k t ≡ true
     → words_in (touches ++ t ∷ []) k ≡ with_first (words_in touches k) t.addr t.value
 words_more touches t k h =
     ap (λ (ts : List Touch). memory_of (map word_of ts)) (kept_more touches t k h)
-    ∙ ap (λ (ps : List (ℕ × ℕ)). memory_of ps) (map-append word_of (filter (covers k) touches) (t ∷ []))
-    ∙ sym (with_first_more (map word_of (filter (covers k) touches)) t.addr t.value)
+    ∙ ap (λ (ps : List (ℕ × ℕ)). memory_of ps) (map-append word_of (filter (is_in_range k) touches) (t ∷ []))
+    ∙ sym (with_first_more (map word_of (filter (is_in_range k) touches)) t.addr t.value)
 
-words_same : (touches : List Touch) (t : Touch) (k : ℕ) → covers k t ≡ false
+words_same : (touches : List Touch) (t : Touch) (k : ℕ) → is_in_range k t ≡ false
     → words_in (touches ++ t ∷ []) k ≡ words_in touches k
 words_same touches t k h = ap (λ (ts : List Touch). memory_of (map word_of ts)) (kept_same touches t k h)
 
@@ -202,30 +202,30 @@ noted_none touches note none is = rw none (record {
 -- what a map notes
 note_here :
     (found : Option ℕ) (before : Option ℕ) (addr started : ℕ) → found ≡ cond (addr == addr) (Some started) before
-    → noted found ≡ started
+    → count_noted found ≡ started
 note_here found before addr started is =
     let same : (addr == addr) ≡ true = eq-eqb addr addr refl in
-    ap noted is ∙ rw same refl
+    ap count_noted is ∙ rw same refl
 
 note_there :
     (found before : Option ℕ) (addr q started : ℕ) → q ≢ addr → found ≡ cond (addr == q) (Some started) before
-    → noted found ≡ noted before
+    → count_noted found ≡ count_noted before
 note_there found before addr q started apart is =
     let other : (addr == q) ≡ false = ne_eqb addr q (λ e. apart (sym e)) in
-    ap noted is ∙ rw other refl
+    ap count_noted is ∙ rw other refl
 
-once_same : (touches : List Touch) (t : Touch) (k : ℕ) → covers k t ≡ false
-    → finite.len (words_in touches k) ≡ length (filter (covers k) touches)
-    → finite.len (words_in (touches ++ t ∷ []) k) ≡ length (filter (covers k) (touches ++ t ∷ []))
+once_same : (touches : List Touch) (t : Touch) (k : ℕ) → is_in_range k t ≡ false
+    → finite.len (words_in touches k) ≡ length (filter (is_in_range k) touches)
+    → finite.len (words_in (touches ++ t ∷ []) k) ≡ length (filter (is_in_range k) (touches ++ t ∷ []))
 once_same touches t k h once =
     ap (λ (words : Words). finite.len words) (words_same touches t k h)
     ∙ once
     ∙ ap (λ (ts : List Touch). length ts) (sym (kept_same touches t k h))
 
-once_more : (touches : List Touch) (t : Touch) (k : ℕ) → covers k t ≡ true
+once_more : (touches : List Touch) (t : Touch) (k : ℕ) → is_in_range k t ≡ true
     → word_at (words_in touches k) t.addr ≡ None
-    → finite.len (words_in touches k) ≡ length (filter (covers k) touches)
-    → finite.len (words_in (touches ++ t ∷ []) k) ≡ length (filter (covers k) (touches ++ t ∷ []))
+    → finite.len (words_in touches k) ≡ length (filter (is_in_range k) touches)
+    → finite.len (words_in (touches ++ t ∷ []) k) ≡ length (filter (is_in_range k) (touches ++ t ∷ []))
 once_more touches t k h none once =
     let unknown : finite.contains_key (words_in touches k) t.addr ≡ false = ap is_some none in
     let one : finite.len (stored (words_in touches k) t.addr t.value) ≡ finite.len (words_in touches k) + 1 =
@@ -234,7 +234,7 @@ once_more touches t k h none once =
     (words_more touches t k h ∙ first_unknown (words_in touches k) t.addr t.value none)
     ∙ one
     ∙ ap (λ n. n + 1) once
-    ∙ sym (ap (λ (ts : List Touch). length ts) (kept_more touches t k h) ∙ length-append (filter (covers k) touches) (t ∷ []))
+    ∙ sym (ap (λ (ts : List Touch). length ts) (kept_more touches t k h) ∙ length-append (filter (is_in_range k) touches) (t ∷ []))
 
 pub noted_more :
     (touches : List Touch) (ended started addr value from : ℕ) (note after : ℕ → ℕ) → AreNoted touches ended started note
@@ -311,27 +311,27 @@ noted_more touches ended started addr value from note after noted is h word here
 -- after a touch of a word, which is noted
 pub noted_touch :
     {S : Type 0} (touches after : List Touch) (ended started addr value from : ℕ) (notes later : IndexMap ℕ ℕ S)
-    → AreNoted touches ended started (λ q. noted (get nat_eq notes q)) → from ≡ max (noted (get nat_eq notes addr)) ended
+    → AreNoted touches ended started (λ q. count_noted (get nat_eq notes q)) → from ≡ max (count_noted (get nat_eq notes addr)) ended
     → (from ≡ started → ⊥) → IsWord (addr, value)
     → after ≡ touches ++ record { addr = addr; value = value; from = from; to = started } ∷ []
     → ((q : ℕ) → get nat_eq later q ≡ cond (addr == q) (Some started) (get nat_eq notes q))
-    → AreNoted after ended started (λ q. noted (get nat_eq later q))
+    → AreNoted after ended started (λ q. count_noted (get nat_eq later q))
 noted_touch touches after ended started addr value from notes later before is open_yet word all noted_now =
     rw all
-    (noted_more touches ended started addr value from (λ q. noted (get nat_eq notes q)) (λ q. noted (get nat_eq later q))
+    (noted_more touches ended started addr value from (λ q. count_noted (get nat_eq notes q)) (λ q. count_noted (get nat_eq later q))
     before is (omega (arith, is, open_yet, before.most addr, before.order)) word
     (note_here _ _ addr started (noted_now addr))
     (λ q apart. note_there _ _ addr q started apart (noted_now q)))
 
 pub windows_touched :
     {S : Type 0} (touches after : List Touch) (ended started addr value from : ℕ) (notes : IndexMap ℕ ℕ S)
-    → AreNoted touches ended started (λ q. noted (get nat_eq notes q)) → from ≡ max (noted (get nat_eq notes addr)) ended
+    → AreNoted touches ended started (λ q. count_noted (get nat_eq notes q)) → from ≡ max (count_noted (get nat_eq notes addr)) ended
     → (from ≡ started → ⊥)
     → after ≡ touches ++ record { addr = addr; value = value; from = from; to = started } ∷ []
     → view after ended started ≡ with_touch (view touches ended started) addr value
 windows_touched touches after ended started addr value from notes before is open_yet all =
     ap (λ (ts : List Touch). view ts ended started) all
-    ∙ touched_first touches ended started addr value from (λ q. noted (get nat_eq notes q)) before is
+    ∙ touched_first touches ended started addr value from (λ q. count_noted (get nat_eq notes q)) before is
     (omega (arith, is, open_yet, before.most addr, before.order))
 
 -- a window starts
@@ -384,16 +384,16 @@ none_pass test (x ∷ xs) fail =
 
 pub kept_since :
     (touches : List Touch) (begin k : ℕ) → All (λ (t : Touch). t.to ≤ k) (take begin touches)
-    → filter (covers k) (drop begin touches) ≡ filter (covers k) touches
+    → filter (is_in_range k) (drop begin touches) ≡ filter (is_in_range k) touches
 kept_since touches begin k before =
-    let none : filter (covers k) (take begin touches) ≡ [] =
-    none_pass (covers k) (take begin touches) (λ i d h. covers_above k (slice_index_or (take begin touches) i d) (before i d h)) in
-    let all : filter (covers k) (take begin touches ++ drop begin touches)
-    ≡ filter (covers k) (take begin touches) ++ filter (covers k) (drop begin touches) =
-    filter-append (covers k) (take begin touches) (drop begin touches) in
-    sym (ap (λ (ts : List Touch). filter (covers k) ts) (sym (take-append-drop begin touches))
+    let none : filter (is_in_range k) (take begin touches) ≡ [] =
+    none_pass (is_in_range k) (take begin touches) (λ i d h. covers_above k (slice_index_or (take begin touches) i d) (before i d h)) in
+    let all : filter (is_in_range k) (take begin touches ++ drop begin touches)
+    ≡ filter (is_in_range k) (take begin touches) ++ filter (is_in_range k) (drop begin touches) =
+    filter-append (is_in_range k) (take begin touches) (drop begin touches) in
+    sym (ap (λ (ts : List Touch). filter (is_in_range k) ts) (sym (take-append-drop begin touches))
     ∙ all
-    ∙ ap (λ (ts : List Touch). ts ++ filter (covers k) (drop begin touches)) none)
+    ∙ ap (λ (ts : List Touch). ts ++ filter (is_in_range k) (drop begin touches)) none)
 
 pub words_since :
     (touches : List Touch) (begin k : ℕ) → All (λ (t : Touch). t.to ≤ k) (take begin touches)

@@ -14,20 +14,20 @@ abbrev pub word_of : Touch → ℕ × ℕ
 word_of touch = (touch.addr, touch.value)
 
 -- the touch was the window's first one of its word
-abbrev pub covers : ℕ → Touch → Bool
-covers k touch = nat_le touch.from k && nat_lt k touch.to
+abbrev pub is_in_range : ℕ → Touch → Bool
+is_in_range k touch = nat_le touch.from k && nat_lt k touch.to
 
 -- what a window has found
 abbrev pub words_in : List Touch → ℕ → Words
-words_in touches k = memory_of (map word_of (filter (covers k) touches))
+words_in touches k = memory_of (map word_of (filter (is_in_range k) touches))
 
 -- how many windows had started when a word was last touched
-abbrev pub noted : Option ℕ → ℕ
-noted None = 0
-noted (Some count) = count
+abbrev pub count_noted : Option ℕ → ℕ
+count_noted None = 0
+count_noted (Some count) = count
 
 abbrev pub note_of : Inside → ℕ → ℕ
-note_of fields addr = noted (get nat_eq fields.notes addr)
+note_of fields addr = count_noted (get nat_eq fields.notes addr)
 
 abbrev pub windows_of : Inside → WindowsValue
 windows_of fields = record {
@@ -51,7 +51,7 @@ pub record AreNoted (touches : List Touch) (ended started : ℕ) (note : ℕ →
   pub found :
       (addr k : ℕ) → ended ≤ k → k < note addr → is_some (word_at (words_in touches k) addr) ≡ true
   pub absent : (addr k : ℕ) → note addr ≤ k → word_at (words_in touches k) addr ≡ None
-  pub once : (k : ℕ) → finite.len (words_in touches k) ≡ length (filter (covers k) touches)
+  pub once : (k : ℕ) → finite.len (words_in touches k) ≡ length (filter (is_in_range k) touches)
 
 abbrev pub AreWindows : Inside → Type 0
 AreWindows fields =

@@ -25,9 +25,9 @@ impl Model for Collector {
 
     ghost coded = { finite.code coded_ℕ coded_ℕ };
 
-    ghost use Rattle.live_words.specs.CollectorView.{collected, AreFound};
+    ghost use Rattle.live_words.specs.CollectorView.{collected_words, AreFound};
 
-    ghost view = { collected };
+    ghost view = { collected_words };
 
     ghost invariant = { AreFound };
 }

@@ -1,7 +1,7 @@
 ghost use Rattle.std.specs.Prelude.{◌≡◌, ◌%◌, ◌^◌, ◌+◌, ◌<◌, ◌≤◌, [], length, IfOk, OnOk, OnErr, nat_eq, filter, drop, slice_index};
 ghost use Rattle.std.specs.FinMap as finite;
 ghost use Rattle.live_words.specs.Windows.{window_at, with_touch, with_window};
-ghost use Rattle.live_words.specs.WindowsView.{covers, noted, word_of, words_in};
+ghost use Rattle.live_words.specs.WindowsView.{is_in_range, count_noted, word_of, words_in};
 ghost use Rattle.live_words.specs.Collector.{IsWord};
 ghost use Rattle.std.specs.List.{All};
 ghost use Rattle.indexmap.specs.IndexMap.{get};
@@ -54,7 +54,7 @@ impl Model for Windows {
 
 impl Touch {
     fn covers(&self, window: u32) -> bool
-        ensures { result ≡ covers window self.now }
+        ensures { result ≡ is_in_range window self.now }
     {
         self.from <= window && window < self.to
     }
@@ -62,7 +62,7 @@ impl Touch {
 
 /// How many windows had started when the word was last touched.
 fn last_touch(notes: &IndexMap<u32, u32>, addr: u32) -> u32
-    ensures { result ≡ noted (get nat_eq notes.now addr) }
+    ensures { result ≡ count_noted (get nat_eq notes.now addr) }
 {
     match notes.get(&addr) {
         Some(started) => *started,
@@ -115,7 +115,7 @@ impl Windows {
     fn since(&self, window: u32) -> &[Touch]
         requires { window < length self.now.windows }
         ensures words { words_in result.now window ≡ window_at self.now window }
-        ensures once { finite.len (window_at self.now window) ≡ length (filter (covers window) result.now) }
+        ensures once { finite.len (window_at self.now window) ≡ length (filter (is_in_range window) result.now) }
         ensures found { All (λ touch. IsWord (word_of touch)) result.now }
     {
         let begin = begin_of(self.begins.as_slice(), window);
@@ -187,7 +187,7 @@ fn from_on(touches: &[Touch], begin: usize) -> &[Touch]
 
 /// How many touches were the first of their word for a window.
 fn count_covered(touches: &[Touch], window: u32) -> usize
-    ensures { result ≡ length (filter (covers window) touches.now) }
+    ensures { result ≡ length (filter (is_in_range window) touches.now) }
 {
     touches.iter().filter(|touch| touch.covers(window)).count()
 }

@@ -3,7 +3,7 @@ use Rattle.std.specs.Prelude.{slice_index}
 use Rattle.std.specs.FinMap as finite
 use Rattle.rv_exec.specs.Memory.{Words}
 use Rattle.live_words.specs.declared.windows.Touch.{Touch}
-use Rattle.live_words.specs.WindowsView.{covers, words_in}
+use Rattle.live_words.specs.WindowsView.{is_in_range, words_in}
 use Rattle.live_words.proofs.WindowsLemmas.{window_seen, words_since, kept_since, windows_started}
 use Rattle.live_words.proofs.windows.Windows.since.Goals as goal
 
@@ -51,7 +51,7 @@ returns-clause-once c =
     (window_seen c.self.inside.touches.items c.self.inside.ended c.self.inside.started c.args.window c.args.self.now
     c.self.view_is c.requires)
     ∙ c.self.invariant.0.once c.args.window
-    ∙ sym (ap (λ (ts : List Touch). length (filter (covers c.args.window) ts)) is
+    ∙ sym (ap (λ (ts : List Touch). length (filter (is_in_range c.args.window) ts)) is
     ∙ ap (λ (ts : List Touch). length ts)
     (kept_since c.self.inside.touches.items (slice_index c.self.inside.begins.items c.args.window) c.args.window
     (c.self.invariant.1.before c.args.window (omega (arith, c.requires, len)))))
