@@ -1,1 +1,5 @@
 pub mod KindsLemmas
+pub mod RunLemmas
+pub mod PointLemmas
+pub mod HeaderLemmas
+pub mod SharingLemmas

@@ -1,2 +1,11 @@
 pub mod Follow
 pub mod Words
+pub mod Collector
+pub mod CollectorView
+pub mod LiveWords
+pub mod Packed
+pub mod Partial
+pub mod Windows
+pub mod WindowsView
+pub mod WindowsCode
+pub mod Laws

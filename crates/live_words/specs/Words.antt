@@ -1,6 +1,9 @@
 -- Words of a memory, each with its address, by rising address.
 use Rattle.std.specs.Prelude.{◌≡◌, ℕ, ◌%◌, ◌^◌, ◌<◌, ◌==◌, ◌&&◌, Bool, true, not, nat_lt, Option, Some, None, Result, Ok, Err, List, [], length, take, slice_index_or}
+use Rattle.std.specs.FinMap as map
+use Rattle.std.specs.Ordering.{nat_cmp}
 use Rattle.smarts_base.specs.Least.{least_below}
+use Rattle.rv_exec.specs.Memory.{Words}
 use Rattle.live_words.specs.declared.words.BadPair.{BadPair}
 use Rattle.live_words.specs.Follow.{last_of, Follow}
 
@@ -37,3 +40,11 @@ unless_misplaced (Some index) pairs = Err (record { index = index })
 -- the pairs as words, or the first that is misplaced
 abbrev pub words_or_fault : List (ℕ × ℕ) → Result (List (ℕ × ℕ)) BadPair
 words_or_fault pairs = unless_misplaced (first_misplaced pairs) pairs
+
+-- the memory that holds the words of these pairs alone, of two with one address the first
+abbrev pub memory_of : List (ℕ × ℕ) → Words
+memory_of pairs = map.from_entries {R = nat_cmp} pairs
+
+-- the words of a memory by rising address
+abbrev pub pairs_of : Words → List (ℕ × ℕ)
+pairs_of words = map.entries words
