@@ -10,13 +10,15 @@ use Rattle.sample_design.proofs.Counts.{below_count}
 use Rattle.livepoint_format.specs.Reading.{Spot, starts_at, items}
 use Rattle.livepoint_format.specs.Reads.{IsBytes}
 use Rattle.livepoint_format.specs.Values.{Head, Point, Whole}
+use Rattle.std.specs.Prelude.{IfErr}
+use Rattle.smarts_base.specs.declared.refusal.Refusal.TheVariants.{Fault, NoMemory}
 use Rattle.std.proofs.Common.{IfOk, inl, inr, eq-eqb, true≢false}
 use Rattle.std.proofs.lemmas.Bool.{cases_eq}
 use Rattle.smarts_base.specs.declared.refusal.Refusal.{Refusal}
 use Rattle.smarts_base.specs.Outcome.{Answers}
 use Rattle.live_words.specs.Follow.{Follow}
 use Rattle.livepoint_format.specs.declared.fault.LibraryFault.{LibraryFault}
-use Rattle.livepoint_format.specs.Laws.{AreBytes}
+use Rattle.livepoint_format.specs.Laws.{AreBytes, IsNoLibrary}
 use Rattle.livepoint_format.specs.Format.{design_of, IsHeader, IsPoint, IsLibrary, spelling, unit_of, AreShared, is_first}
 use Rattle.livepoint_format.proofs.Spells.{items_spell}
 use Rattle.livepoint_format.proofs.LibraryLaws.{points_spell, reads_spellings}
@@ -102,3 +104,16 @@ pub found_of : (r : Result Whole (Refusal LibraryFault)) (bytes : List ℕ) → 
     → IfOk r (λ l. IsLibrary l × (bytes ≡ spelling l))
 found_of (Ok l) bytes are e = (reads_spellings bytes l are).0 e
 found_of (Err refusal) bytes are e = tt
+
+-- and a fault is that of no library
+fault_only : (bytes : List ℕ) (fault : LibraryFault) → AreBytes bytes → library_of bytes ≡ Err fault → (l : Whole) → IsLibrary l → bytes ≡ spelling l → ⊥
+fault_only bytes fault are e l is text =
+    let read : library_of bytes ≡ Ok l = (reads_spellings bytes l are).1 (is, text) in
+    let both : (let r : Result Whole LibraryFault = Err fault in r) ≡ Ok l = sym e ∙ read in
+    absurd cc
+
+pub only_of : (r : Result Whole (Refusal LibraryFault)) (bytes : List ℕ) → AreBytes bytes → Answers (λ l. l) r (library_of bytes)
+    → IfErr r (IsNoLibrary bytes)
+only_of (Ok l) bytes are e = tt
+only_of (Err (Fault fault)) bytes are e = fault_only bytes fault are e
+only_of (Err NoMemory) bytes are e = tt

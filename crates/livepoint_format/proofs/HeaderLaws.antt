@@ -22,7 +22,8 @@ use Rattle.livepoint_format.specs.declared.fault.LibraryFault.{LibraryFault}
 use Rattle.livepoint_format.specs.Reads.{IsBytes}
 use Rattle.livepoint_format.specs.Reading.{Spot, Reader, done, ◌>>=◌, number, judged, demanded, items, counted}
 use Rattle.livepoint_format.specs.Values.{Head}
-use Rattle.livepoint_format.specs.Format.{byte, word, long, pair, magic, geometry, scheme_number, kind, geometries, kinds_text, head, table, header, is_first, within, is_heap, design_of, IsNewKind, IsHeader, ranks, AreShared}
+use Rattle.livepoint_format.specs.Format.{byte, word, long, pair, magic, geometry, scheme_number, kind, geometries, kinds_text, head, table, header, is_first, within, is_heap, design_of, IsNewKind, IsHeader, AreShared}
+use Rattle.live_points.specs.Sharing.{ranks}
 use Rattle.livepoint_format.specs.Decoding.{bad_field, field, zero_byte, pair_at, geometry_at, is_cache_line, is_page, geometries_at, scheme_of, kind_read, kind_after, kinds_count, is_count, counts, head_at, shared_after, table_at, header_at}
 use Rattle.livepoint_format.proofs.Spells.{Took, Spells, Builds, built, built_by, built_last, finished, said_so, made, number_spells, judged_spells, demanded_spells, items_spell, counted_spell, IsWide, wide8, wide32, wide64}
 

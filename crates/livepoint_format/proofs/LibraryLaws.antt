@@ -10,7 +10,8 @@ use Rattle.livepoint_format.specs.declared.fault.LibraryFault.TheVariants as fau
 use Rattle.livepoint_format.specs.Reads.{IsBytes}
 use Rattle.livepoint_format.specs.Reading.{Spot, Reader, done, ◌>>=◌, items, starts_at}
 use Rattle.livepoint_format.specs.Values.{Head, Point, Whole}
-use Rattle.livepoint_format.specs.Format.{word, pair, end_word, head, table, header, point, spelling, is_first, unit_of, ranks, IsHeader, IsTable, AreShared, IsPoint, IsWhole, IsLibrary}
+use Rattle.livepoint_format.specs.Format.{word, pair, end_word, head, table, header, point, spelling, is_first, unit_of, IsHeader, IsTable, AreShared, IsPoint, IsWhole, IsLibrary}
+use Rattle.live_points.specs.Sharing.{ranks}
 use Rattle.livepoint_format.specs.Decoding.{bad_field, field, header_at, point_at, point_after, whole_at, ended, library_of}
 use Rattle.livepoint_format.specs.Growing.{longer, Stays, Grows}
 use Rattle.livepoint_format.specs.Laws.{AreBytes}

@@ -9,7 +9,8 @@ use Rattle.live_words.specs.Follow.{last_of, Follow}
 use Rattle.live_words.specs.Words.{is_above, rises, IsPair, AreWords}
 use Rattle.live_words.proofs.FollowLemmas.{last_or-push}
 use Rattle.livepoint_format.specs.Shared.{Parts, place_in, parts_of, runs_of, stretch, words_of, are_apart, merged}
-use Rattle.livepoint_format.specs.Format.{begins, ranks, is_own, is_run, AreParts}
+use Rattle.livepoint_format.specs.Format.{begins, is_own, is_run, AreParts}
+use Rattle.live_points.specs.Sharing.{ranks}
 use Rattle.livepoint_format.specs.Rising.{IsWord, AreRising}
 use Rattle.livepoint_format.proofs.Merges.{merged_filters, own_of_merged, shared_of_merged, length_merged, all_merged, words_of_rising, rising_of_apart, apart_of_rising}
 use Rattle.livepoint_format.proofs.Runs.{places_of_runs, ArePlaces, IsRun, AreRuns, places_of_runs_of, runs_of_places, runs_are, sum_of_runs, pairs_at, pairs_of_runs, places_below}

@@ -7,7 +7,7 @@ use Rattle.live_words.specs.Follow.{last_of, Follow}
 use Rattle.live_words.specs.Words.{IsPair}
 use Rattle.live_words.proofs.FollowLemmas.{last_or-push}
 use Rattle.livepoint_format.specs.Shared.{same, place_from, place_in}
-use Rattle.livepoint_format.specs.Format.{is_behind, ranks}
+use Rattle.live_points.specs.Sharing.{is_behind, ranks}
 use Rattle.livepoint_format.specs.Rising.{IsWord, AreRising}
 use Rattle.livepoint_format.proofs.Runs.{ArePlaces, pairs_at}
 

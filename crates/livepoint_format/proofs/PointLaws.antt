@@ -28,7 +28,8 @@ use Rattle.livepoint_format.specs.declared.entries.Which.{Which}
 use Rattle.livepoint_format.specs.Reading.{Reader, done, ◌>>=◌, number, judged, demanded, items, counted}
 use Rattle.livepoint_format.specs.Values.{Head, Point}
 use Rattle.livepoint_format.specs.Shared.{Parts, parts_of, words_of, are_apart}
-use Rattle.livepoint_format.specs.Format.{byte, word, long, pair, parts_text, words_text, entry, set, snapshot, snapshots, image, point, is_first, within, design_of, most_words, IsHeader, ranks, AreShared, is_own, is_run, AreParts, IsSnap, AreSnaps, kind_at, IsImageOf, AreImages, IsPoint, IsNewKind}
+use Rattle.livepoint_format.specs.Format.{byte, word, long, pair, parts_text, words_text, entry, set, snapshot, snapshots, image, point, is_first, within, design_of, most_words, IsHeader, AreShared, is_own, is_run, AreParts, IsSnap, AreSnaps, kind_at, IsImageOf, AreImages, IsPoint, IsNewKind}
+use Rattle.live_points.specs.Sharing.{ranks}
 use Rattle.livepoint_format.specs.Decoding.{bad_field, field, pair_at, word_after, own_after, run_after, parts_at, merged_at, words_at, bad_record, entry_after, entry_count, set_at, set_after, snapshot_at, snapshots_at, target_after, counter_after, address_after, image_at, image_after, register_after, registers_count, point_at}
 use Rattle.livepoint_format.proofs.Spells.{Spells, Builds, built, built_by, built_last, finished, said_so, made, number_spells, judged_spells, items_spell, few_items_spell, counted_spell, IsWide, wide8, wide32, wide64}
 use Rattle.livepoint_format.proofs.Follows.{follow_weaker, all_of_follow, follow_of_all}

@@ -25,7 +25,8 @@ use Rattle.livepoint_format.specs.declared.entries.Which.{Which}
 use Rattle.livepoint_format.specs.Reading.{Spot, Reader, done, ◌>>=◌, number, judged, demanded, items, counted, starts_at}
 use Rattle.livepoint_format.specs.Values.{Head, Point, Whole}
 use Rattle.livepoint_format.specs.Shared.{Parts, words_of, are_apart}
-use Rattle.livepoint_format.specs.Format.{magic, end_word, within, is_heap, is_first, kind_at, ranks, is_own, is_run, most_words, unit_of}
+use Rattle.livepoint_format.specs.Format.{magic, end_word, within, is_heap, is_first, kind_at, is_own, is_run, most_words, unit_of}
+use Rattle.live_points.specs.Sharing.{ranks}
 
 -- a number that a test refuses is a bad field
 abbrev pub bad_field : ℕ → LibraryFault

@@ -19,6 +19,7 @@ use Rattle.hierarchy.specs.declared.places.Places.{Places}
 use Rattle.hierarchy.specs.Config.{ArePlaces}
 use Rattle.live_words.specs.Follow.{last_of, Follow}
 use Rattle.live_points.specs.Kinds.{is_among}
+use Rattle.live_points.specs.Sharing.{ranks}
 use Rattle.live_words.specs.Words.{rises, IsPair, AreWords}
 use Rattle.livepoint_format.specs.Values.{Head, Point, Whole}
 use Rattle.livepoint_format.specs.Shared.{Parts, parts_of, place_in}
@@ -158,15 +159,6 @@ pub record IsHeader (h : Head) : Type 0 where
   pub places : ArePlaces h.places
   pub few_kinds : (1 ≤ length h.kinds) × (length h.kinds ≤ 4)
   pub kinds : Follow IsNewKind [] h.kinds
-
--- by address, and then by value
-abbrev pub is_behind : Option (ℕ × ℕ) → ℕ × ℕ → Bool
-is_behind None p = true
-is_behind (Some before) p = nat_lt before.0 p.0 || ((before.0 == p.0) && nat_lt before.1 p.1)
-
--- a pair that may stand in the table behind those before it
-abbrev pub ranks : List (ℕ × ℕ) → ℕ × ℕ → Bool
-ranks before p = (p.0 % 4 == 0) && is_behind (last_of before) p
 
 abbrev pub IsTable : Bool → List (ℕ × ℕ) → Type 0
 IsTable true shared = shared ≡ []

@@ -2,11 +2,14 @@
 use Rattle.std.specs.Prelude.{◌≡◌, ◌↔◌, ℕ, ◌<◌, ◌≤◌, true, Result, Ok, Err, List, [], length, take, slice_index}
 use Rattle.live_words.specs.Follow.{Follow}
 use Rattle.live_words.specs.Words.{IsPair, AreWords}
+use Rattle.smarts_base.specs.declared.refusal.Refusal.{Refusal}
+use Rattle.smarts_base.specs.declared.refusal.Refusal.TheVariants.{Fault, NoMemory}
 use Rattle.livepoint_format.specs.declared.fault.LibraryFault.{LibraryFault}
 use Rattle.livepoint_format.specs.declared.fault.LibraryFault.TheVariants as faults
 use Rattle.livepoint_format.specs.Values.{Head, Whole}
 use Rattle.livepoint_format.specs.Shared.{Parts, parts_of, words_of, are_apart}
-use Rattle.livepoint_format.specs.Format.{spelling, ranks, AreParts, IsLibrary}
+use Rattle.livepoint_format.specs.Format.{spelling, AreParts, IsLibrary}
+use Rattle.live_points.specs.Sharing.{ranks}
 use Rattle.livepoint_format.specs.Decoding.{header_at, point_at, library_of}
 use Rattle.livepoint_format.specs.Growing.{Grows}
 
@@ -18,6 +21,11 @@ abbrev pub ReadsSpellings : Type 0
 ReadsSpellings =
     (bytes : List ℕ) (l : Whole) → AreBytes bytes
     → (library_of bytes ≡ Ok l) ↔ (IsLibrary l × (bytes ≡ spelling l))
+
+-- after this refusal, a fault, no library has this spelling
+abbrev pub IsNoLibrary : List ℕ → Refusal LibraryFault → Type 0
+IsNoLibrary bytes (Fault fault) = (l : Whole) → IsLibrary l → bytes ≡ spelling l → ⊥
+IsNoLibrary bytes NoMemory = Unit {0}
 
 -- two libraries of one spelling are one
 abbrev pub SpellsOne : Type 0

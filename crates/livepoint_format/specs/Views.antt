@@ -7,7 +7,7 @@ use Rattle.livepoint_format.specs.declared.shared.Shared.TheInside.{Inside as Sh
 use Rattle.livepoint_format.specs.declared.words.WordParts.{WordParts}
 use Rattle.livepoint_format.specs.Shared.{Parts}
 use Rattle.livepoint_format.specs.Values.{Head}
-use Rattle.livepoint_format.specs.Format.{ranks}
+use Rattle.live_points.specs.Sharing.{ranks}
 
 -- the budget isn't told
 abbrev pub head_of : Header → Head

@@ -6,6 +6,7 @@ ghost use Rattle.livepoint_format.specs.Reading.{items, handed_out, starts_at};
 ghost use Rattle.livepoint_format.specs.Format.{IsHeader, IsLibrary, AreShared, is_first, end_word, spelling, unit_of};
 ghost use Rattle.livepoint_format.specs.Decoding.{field, header_at, point_at, point_after, whole_at, library_of};
 ghost use Rattle.livepoint_format.specs.Reads.{Reads};
+ghost use Rattle.livepoint_format.specs.Laws.{IsNoLibrary};
 ghost use Rattle.livepoint_format.specs.Views.{head_of};
 
 use crate::cursor::{Answer, Cursor, bad_field};
@@ -145,6 +146,9 @@ pub fn decode_library(alloc: Global, bytes: &[u8]) -> Answer<Library>
 
     // A library comes only from its own spelling.
     ensures found { IfOk result (λ l. IsLibrary l × (bytes.now ≡ spelling l)) }
+
+    // A fault comes only of bytes that are no library's.
+    ensures only { IfErr result (IsNoLibrary bytes.now) }
 {
     all(alloc, bytes)
 }

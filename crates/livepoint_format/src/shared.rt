@@ -1,7 +1,7 @@
 ghost use Rattle.std.specs.Prelude.{◌≡◌, ◌<◌, ◌≤◌, ◌^◌, [], length, slice_index_or};
 ghost use Rattle.live_words.specs.Follow.{last_of, Follow};
 ghost use Rattle.live_words.specs.Words.{IsPair};
-ghost use Rattle.livepoint_format.specs.Format.{is_behind, ranks};
+ghost use Rattle.live_points.specs.Sharing.{is_behind, ranks};
 
 use std::alloc::Global;
 use std::marker::Model;

@@ -102,14 +102,14 @@ fn second_library(
     if let Some(version) = bytes.get_mut(4) {
         *version = 2;
     }
-    put(&mut bytes, shared.len() as u32)?;
+    put(&mut bytes, (shared.len() % 65536) as u32)?;
     for (addr, value) in shared {
         put(&mut bytes, *addr)?;
         put(&mut bytes, *value)?;
     }
     put_state(&mut bytes)?;
-    put(&mut bytes, own.len() as u32)?;
-    put(&mut bytes, runs.len() as u32)?;
+    put(&mut bytes, (own.len() % 65536) as u32)?;
+    put(&mut bytes, (runs.len() % 65536) as u32)?;
     for (addr, value) in own {
         put(&mut bytes, *addr)?;
         put(&mut bytes, *value)?;
