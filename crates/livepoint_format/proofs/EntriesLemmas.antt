@@ -1,5 +1,5 @@
 -- Entries that stand in bytes are those that are read from them.
-use Rattle.std.proofs.Common.{◌≡◌, ℕ, zero, suc, ◌+◌, ◌-◌, ◌*◌, ◌^◌, ◌<◌, ◌≤◌, Bool, true, false, not, ltb, eqb, ◌&&◌, Ok, None, List, [], ◌∷◌, ◌++◌, length, take, drop, get_or, set, slice_get, refl, sym, ap, subst, ◌∙◌, arith, add-one, append-nil, append_assoc, length-append, length-take-le, length-drop, take-append-drop, drop-drop}
+use Rattle.std.proofs.Common.{◌≡◌, ℕ, zero, suc, ◌+◌, ◌-◌, ◌*◌, ◌^◌, ◌<◌, ◌≤◌, Bool, true, false, not, ltb, eqb, ◌&&◌, Ok, None, List, [], ◌∷◌, ◌++◌, length, take, drop, set, slice_get, refl, sym, ap, ◌∙◌, arith, add-one, append-nil, length-take-le, length-drop, take-append-drop, drop-drop}
 use Rattle.std.specs.Prelude.{flat_map}
 use Rattle.std.specs.List.{list_any}
 use Rattle.std.specs.Int.{w32, w64, from_le_bytes, to_le_bytes}
@@ -11,7 +11,6 @@ use Rattle.lru_plain.specs.Shape.{Shape}
 use Rattle.recency_record.specs.declared.entry.Entry.{Entry}
 use Rattle.recency_record.specs.Faults.{belongs, is_no_later, entry_fault}
 use Rattle.recency_record.proofs.Judgements.{passed}
-use Rattle.live_words.specs.Follow.{Follow}
 use Rattle.live_words.proofs.FollowLemmas.{follow_more}
 use Rattle.livepoint_format.specs.declared.entries.Which.{Which}
 use Rattle.livepoint_format.specs.Reading.{Spot, Reader, items}
@@ -19,7 +18,7 @@ use Rattle.livepoint_format.specs.Reads.{IsBytes, Passed}
 use Rattle.livepoint_format.specs.Format.{word, long, entry}
 use Rattle.livepoint_format.specs.Decoding.{entry_after}
 use Rattle.livepoint_format.specs.Entries.{may_stand, AreRead}
-use Rattle.livepoint_format.proofs.Spells.{Spells, items_spell, bytes_front, bytes_back}
+use Rattle.livepoint_format.proofs.Spells.{items_spell, bytes_front, bytes_back}
 use Rattle.livepoint_format.proofs.PointLaws.{entry_spells}
 
 pub stands_behind : (g : Shape) (limit number : ℕ) (before : List Entry) (e : Entry) → may_stand g limit number before e ≡ true

@@ -1,8 +1,7 @@
 -- What each element of a list is by itself, and behind those before it.
-use Rattle.std.proofs.Common.{◌≡◌, ℕ, zero, suc, ◌+◌, ◌<◌, Bool, true, List, [], ◌∷◌, ◌++◌, length, get_or, All, refl, sym, ap, subst, arith, append-nil, length-append, ◌-◌, ◌∙◌, slice_get}
+use Rattle.std.proofs.Common.{◌≡◌, ℕ, zero, suc, ◌+◌, ◌<◌, List, [], ◌∷◌, ◌++◌, length, get_or, All, refl, arith, ◌-◌, ◌∙◌, slice_get}
 use Rattle.std.proofs.Common.{Some, take, drop, set, add-one}
 use Rattle.std.proofs.Math.Seq.{take-suc-set}
-use Rattle.std.specs.List.{AllPass, AllByRecursion}
 use Rattle.std.proofs.lemmas.List.Elements.{All-from_get_or, All-get_or}
 use Rattle.live_words.specs.Follow.{Follow, last_of}
 use Rattle.live_words.proofs.FollowLemmas.{follow_at, follow_by}

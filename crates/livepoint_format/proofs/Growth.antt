@@ -1,5 +1,5 @@
 -- What stays of a reader's answer when bytes come in behind.
-use Rattle.std.proofs.Common.{◌≡◌, ℕ, zero, suc, ◌+◌, ◌-◌, ◌^◌, ◌<◌, ◌≤◌, Bool, true, false, ltb, cond, Result, Ok, Err, List, [], ◌∷◌, ◌++◌, length, take, drop, refl, sym, ap, subst, ◌∙◌, arith, lt-ltb, le-ltb, ltb-false, ltb-true, length-append, length-drop}
+use Rattle.std.proofs.Common.{◌≡◌, ℕ, zero, suc, ◌+◌, ◌^◌, ◌≤◌, Bool, true, false, ltb, cond, Result, Ok, Err, List, [], ◌∷◌, ◌++◌, length, take, drop, refl, sym, ap, ◌∙◌, arith, le-ltb, ltb-false, length-append, length-drop}
 use Rattle.std.specs.Int.{Width, w8, w32, w64, byte_len, from_le_bytes}
 use Rattle.std.proofs.lemmas.List.{take-append-le, drop-append-le}
 use Rattle.lru_plain.specs.Shape.{Shape, sets_of}
@@ -12,7 +12,7 @@ use Rattle.livepoint_format.specs.Reading.{Spot, Reader, done, onward, ◌>>=◌
 use Rattle.livepoint_format.specs.Growing.{longer, Stays, Grows}
 use Rattle.livepoint_format.specs.Values.{Head}
 use Rattle.livepoint_format.specs.Format.{is_first}
-use Rattle.livepoint_format.specs.Decoding.{bad_field, field, pair_at, geometry_at, geometries_at, kind_read, kind_after, kinds_count, head_at, table_at, header_at, parts_at, merged_at, words_at, entry_after, set_at, set_after, snapshot_at, snapshots_at, target_after, image_at, point_at, whole_at}
+use Rattle.livepoint_format.specs.Decoding.{bad_field, field, pair_at, geometry_at, geometries_at, kind_read, kinds_count, head_at, table_at, header_at, parts_at, merged_at, words_at, entry_after, set_at, set_after, snapshot_at, snapshots_at, target_after, image_at, point_at, whole_at}
 
 -- more bytes don't mend it
 abbrev is_final : LibraryFault → Bool

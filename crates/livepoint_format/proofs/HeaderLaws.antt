@@ -1,14 +1,12 @@
 -- Headers and tables: they are read exactly where their spelling stands.
-use Rattle.std.proofs.Common.{◌≡◌, ℕ, ◌+◌, ◌%◌, ◌^◌, ◌<◌, ◌≤◌, ◌⊎◌, Bool, true, false, not, eqb, ltb, leb, ◌&&◌, cond, Result, Ok, Err, List, [], ◌∷◌, ◌++◌, length, refl, sym, ap, ◌∙◌, arith, inl, inr, eq-eqb, eqb-true, lt-ltb, ltb-true, ltb-false}
-use Rattle.std.specs.Prelude.{flat_map}
-use Rattle.std.specs.List.{list_any}
+use Rattle.std.proofs.Common.{◌≡◌, ℕ, ◌%◌, ◌^◌, ◌<◌, ◌≤◌, Bool, true, false, not, eqb, ltb, leb, cond, Result, Ok, Err, List, [], ◌∷◌, ◌++◌, length, refl, sym, ap, ◌∙◌, arith, inl, inr, eq-eqb, eqb-true, lt-ltb, ltb-true, ltb-false}
 use Rattle.std.specs.Int.{Width, w8, w32, w64, to_le_bytes}
-use Rattle.std.proofs.lemmas.Bool.{and_parts, leb-true, le-leb, cases_Bool, not-false, cases_eq}
+use Rattle.std.proofs.lemmas.Bool.{and_parts, leb-true, le-leb, cases_eq}
 use Rattle.sample_design.specs.declared.design.Design.{Design}
 use Rattle.sample_design.specs.declared.units.UnitsFault.{UnitsFault}
 use Rattle.sample_design.specs.declared.units.UnitsFault.TheVariants.{NoUnits, TooMany}
 use Rattle.sample_design.specs.Units.{units_of, unit_count, judged as units_judged}
-use Rattle.lru_plain.specs.Shape.{Shape, IsShape}
+use Rattle.lru_plain.specs.Shape.{Shape}
 use Rattle.predictor.specs.declared.kind.PredictorKind.{PredictorKind}
 use Rattle.predictor.specs.declared.kind.Scheme.{Scheme}
 use Rattle.predictor.specs.declared.kind.Scheme.TheVariants.{Bimodal, Gshare}
@@ -20,12 +18,12 @@ use Rattle.live_words.specs.Words.{IsPair}
 use Rattle.live_points.specs.Kinds.{is_among, may_join}
 use Rattle.livepoint_format.specs.declared.fault.LibraryFault.{LibraryFault}
 use Rattle.livepoint_format.specs.Reads.{IsBytes}
-use Rattle.livepoint_format.specs.Reading.{Spot, Reader, done, ◌>>=◌, number, judged, demanded, items, counted}
+use Rattle.livepoint_format.specs.Reading.{Spot, judged, counted}
 use Rattle.livepoint_format.specs.Values.{Head}
 use Rattle.livepoint_format.specs.Format.{byte, word, long, pair, magic, geometry, scheme_number, kind, geometries, kinds_text, head, table, header, is_first, within, is_heap, design_of, IsNewKind, IsHeader, AreShared}
 use Rattle.live_points.specs.Sharing.{ranks}
-use Rattle.livepoint_format.specs.Decoding.{bad_field, field, zero_byte, pair_at, geometry_at, is_cache_line, is_page, geometries_at, scheme_of, kind_read, kind_after, kinds_count, is_count, counts, head_at, shared_after, table_at, header_at}
-use Rattle.livepoint_format.proofs.Spells.{Took, Spells, Builds, built, built_by, built_last, finished, said_so, made, number_spells, judged_spells, demanded_spells, items_spell, counted_spell, IsWide, wide8, wide32, wide64}
+use Rattle.livepoint_format.specs.Decoding.{bad_field, field, pair_at, geometry_at, is_cache_line, is_page, geometries_at, scheme_of, kind_read, kind_after, kinds_count, is_count, counts, head_at, table_at, header_at}
+use Rattle.livepoint_format.proofs.Spells.{Spells, built, built_by, built_last, finished, said_so, made, number_spells, judged_spells, demanded_spells, counted_spell, IsWide, wide8, wide32, wide64}
 
 -- ---- fields
 

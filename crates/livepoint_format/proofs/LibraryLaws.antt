@@ -1,19 +1,15 @@
 -- Whole libraries: bytes are read as one exactly where they are its spelling.
-use Rattle.std.proofs.Common.{◌≡◌, ◌↔◌, ℕ, zero, suc, ◌+◌, ◌-◌, ◌*◌, ◌^◌, ◌<◌, ◌≤◌, Bool, true, false, eqb, ltb, cond, Result, Ok, Err, List, [], ◌∷◌, ◌++◌, length, take, drop, get_or, refl, sym, ap, subst, ◌∙◌, arith, eq-eqb, eqb-true, lt-ltb, le-ltb, ltb-false, append-nil, length-append, take-append-drop, length-take-le, length-drop}
+use Rattle.std.proofs.Common.{◌≡◌, ◌↔◌, ℕ, ◌+◌, ◌*◌, ◌^◌, ◌<◌, ◌≤◌, Bool, true, false, eqb, ltb, cond, Result, Ok, Err, List, [], ◌∷◌, ◌++◌, length, take, drop, refl, sym, ap, ◌∙◌, arith, eq-eqb, eqb-true, le-ltb, ltb-false, append-nil, length-append, take-append-drop, length-take-le, length-drop}
 use Rattle.std.specs.Prelude.{flat_map}
-use Rattle.std.specs.Int.{Width, w32, to_le_bytes}
-use Rattle.std.proofs.lemmas.Bool.{cases_lt}
+use Rattle.std.specs.Int.{w32}
 use Rattle.live_words.specs.Follow.{Follow}
-use Rattle.live_words.specs.Words.{IsPair}
 use Rattle.livepoint_format.specs.declared.fault.LibraryFault.{LibraryFault}
 use Rattle.livepoint_format.specs.declared.fault.LibraryFault.TheVariants as faults
-use Rattle.livepoint_format.specs.Reads.{IsBytes}
-use Rattle.livepoint_format.specs.Reading.{Spot, Reader, done, ◌>>=◌, items, starts_at}
+use Rattle.livepoint_format.specs.Reading.{Spot, starts_at}
 use Rattle.livepoint_format.specs.Values.{Head, Point, Whole}
-use Rattle.livepoint_format.specs.Format.{word, pair, end_word, head, table, header, point, spelling, is_first, unit_of, IsHeader, IsTable, AreShared, IsPoint, IsWhole, IsLibrary}
-use Rattle.live_points.specs.Sharing.{ranks}
-use Rattle.livepoint_format.specs.Decoding.{bad_field, field, header_at, point_at, point_after, whole_at, ended, library_of}
-use Rattle.livepoint_format.specs.Growing.{longer, Stays, Grows}
+use Rattle.livepoint_format.specs.Format.{word, pair, end_word, head, table, header, point, spelling, is_first, unit_of, IsHeader, IsTable, AreShared, IsPoint, IsLibrary}
+use Rattle.livepoint_format.specs.Decoding.{field, point_after, whole_at, ended, library_of}
+use Rattle.livepoint_format.specs.Growing.{longer, Stays}
 use Rattle.livepoint_format.specs.Laws.{AreBytes}
 use Rattle.livepoint_format.proofs.Spells.{Took, Spells, built, built_by, built_last, finished, made, items_spell, wide32}
 use Rattle.livepoint_format.proofs.HeaderLaws.{IsFront, header_spells, test_spells}

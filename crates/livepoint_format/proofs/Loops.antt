@@ -1,12 +1,12 @@
 -- Reading one more item of many.
-use Rattle.std.proofs.Common.{◌≡◌, ℕ, zero, suc, ◌+◌, ◌-◌, ◌<◌, ◌≤◌, Result, Ok, Err, List, [], ◌∷◌, ◌++◌, refl, sym, ap, ◌∙◌, arith}
+use Rattle.std.proofs.Common.{◌≡◌, ℕ, suc, ◌+◌, ◌-◌, ◌<◌, ◌≤◌, Result, Ok, Err, List, [], ◌∷◌, ◌++◌, refl, sym, arith}
 use Rattle.std.proofs.Common.{subst}
 use Rattle.std.specs.Prelude.{IsErrAnd}
 use Rattle.smarts_base.specs.declared.refusal.Refusal.{Refusal}
 use Rattle.smarts_base.specs.declared.refusal.Refusal.TheVariants.{Fault, NoMemory}
 use Rattle.livepoint_format.specs.declared.fault.LibraryFault.{LibraryFault}
 use Rattle.livepoint_format.specs.Reads.{Reads, Refuses}
-use Rattle.livepoint_format.specs.Reading.{Spot, Reader, onward, items}
+use Rattle.livepoint_format.specs.Reading.{Spot, Reader, items}
 
 module _ {A : Type 0} (item : List A → Reader A) (count i : ℕ) (before : List A) (at : Spot) where
   pub goes_on : (x : A) (after : Spot) → i < count → item before at ≡ Ok (x, after)

@@ -1,40 +1,37 @@
 -- Records, images, words and points: they are read exactly where their spelling stands.
-use Rattle.std.proofs.Common.{◌≡◌, ℕ, zero, suc, ◌+◌, ◌-◌, ◌*◌, ◌%◌, ◌^◌, ◌<◌, ◌≤◌, Bool, true, false, not, eqb, ltb, leb, ◌&&◌, cond, Option, Some, None, is_none, List, [], ◌∷◌, ◌++◌, length, drop, take, get_or, slice_get, All, refl, sym, ap, subst, ◌∙◌, arith, inl, inr, eq-eqb, eqb-true, lt-ltb, ltb-true, append-nil, length-append, length-take-le}
+use Rattle.std.proofs.Common.{◌≡◌, ℕ, zero, suc, ◌+◌, ◌-◌, ◌*◌, ◌%◌, ◌^◌, ◌<◌, ◌≤◌, Bool, true, false, not, eqb, ltb, leb, Option, Some, None, List, [], ◌∷◌, ◌++◌, length, drop, take, get_or, All, refl, sym, ap, subst, ◌∙◌, arith, inl, inr, eq-eqb, eqb-true, ltb-true, length-append, length-take-le}
 use Rattle.std.specs.Prelude.{flat_map}
-use Rattle.std.specs.List.{list_any, AllPass}
-use Rattle.std.specs.Int.{Width, w8, w32, w64, to_le_bytes}
+use Rattle.std.specs.Int.{w8, w32, w64}
 use Rattle.std.specs.Option.{option_or}
-use Rattle.std.proofs.lemmas.Bool.{and_parts, leb-true, le-leb, cases_Bool, cases_lt, false≢true}
+use Rattle.std.proofs.lemmas.Bool.{and_parts, leb-true, le-leb, cases_lt}
 use Rattle.std.proofs.lemmas.List.Elements.{All-from_get_or, All-get_or}
 use Rattle.std.proofs.Math.Nat.{pow-le-pow_right}
 use Rattle.lru_plain.specs.Shape.{Shape, IsShape, sets_of}
 use Rattle.predictor.specs.declared.kind.PredictorKind.{PredictorKind}
 use Rattle.predictor.specs.Kind.{IsKind}
 use Rattle.predictor.specs.Tables.{Tables, no_target}
-use Rattle.predictor.specs.Parts.{is_counter, is_history, is_instruction, is_source, is_target, is_entry, IsImage}
+use Rattle.predictor.specs.Parts.{is_counter, is_history, is_instruction, is_source, is_target, is_entry}
 use Rattle.predictor.proofs.Faults.{history_below}
 use Rattle.recency_record.specs.declared.entry.Entry.{Entry}
-use Rattle.recency_record.specs.declared.fault.RecordFault.{RecordFault}
 use Rattle.recency_record.specs.Recency.{Recency}
-use Rattle.recency_record.specs.Faults.{belongs, is_no_later, entry_fault, entries_fault, set_fault, sets_fault}
+use Rattle.recency_record.specs.Faults.{belongs, entry_fault, entries_fault, set_fault, sets_fault}
 use Rattle.recency_record.proofs.Judgements.{Passes, passes, passed}
 use Rattle.recency_record.proofs.FirstFaults.{too_many, not_too_many}
 use Rattle.hierarchy.specs.declared.places.Places.{Places}
 use Rattle.hierarchy.specs.Config.{ArePlaces}
-use Rattle.live_words.specs.Follow.{last_of, Follow}
+use Rattle.live_words.specs.Follow.{Follow}
 use Rattle.live_words.specs.Words.{rises, IsPair, AreWords}
 use Rattle.live_words.proofs.FollowLemmas.{follow_at, follow_by}
 use Rattle.livepoint_format.specs.declared.entries.Which.{Which}
-use Rattle.livepoint_format.specs.Reading.{Reader, done, ◌>>=◌, number, judged, demanded, items, counted}
+use Rattle.livepoint_format.specs.Reading.{number, items}
 use Rattle.livepoint_format.specs.Values.{Head, Point}
-use Rattle.livepoint_format.specs.Shared.{Parts, parts_of, words_of, are_apart}
-use Rattle.livepoint_format.specs.Format.{byte, word, long, pair, parts_text, words_text, entry, set, snapshot, snapshots, image, point, is_first, within, design_of, most_words, IsHeader, AreShared, is_own, is_run, AreParts, IsSnap, AreSnaps, kind_at, IsImageOf, AreImages, IsPoint, IsNewKind}
-use Rattle.live_points.specs.Sharing.{ranks}
-use Rattle.livepoint_format.specs.Decoding.{bad_field, field, pair_at, word_after, own_after, run_after, parts_at, merged_at, words_at, bad_record, entry_after, entry_count, set_at, set_after, snapshot_at, snapshots_at, target_after, counter_after, address_after, image_at, image_after, register_after, registers_count, point_at}
-use Rattle.livepoint_format.proofs.Spells.{Spells, Builds, built, built_by, built_last, finished, said_so, made, number_spells, judged_spells, items_spell, few_items_spell, counted_spell, IsWide, wide8, wide32, wide64}
+use Rattle.livepoint_format.specs.Shared.{Parts, parts_of, words_of}
+use Rattle.livepoint_format.specs.Format.{byte, word, long, pair, parts_text, words_text, entry, set, snapshot, snapshots, image, point, is_first, most_words, IsHeader, AreShared, is_own, is_run, AreParts, IsSnap, AreSnaps, kind_at, IsImageOf, AreImages, IsPoint, IsNewKind}
+use Rattle.livepoint_format.specs.Decoding.{parts_at, merged_at, words_at, entry_after, set_at, set_after, snapshot_at, snapshots_at, target_after, counter_after, address_after, image_at, image_after, register_after, registers_count, point_at}
+use Rattle.livepoint_format.proofs.Spells.{Spells, built, built_last, finished, said_so, made, number_spells, judged_spells, items_spell, few_items_spell, counted_spell, wide8, wide32, wide64}
 use Rattle.livepoint_format.proofs.Follows.{follow_weaker, all_of_follow, follow_of_all}
 use Rattle.livepoint_format.proofs.Parts.{words_apart, words_again, parts_are, parts_again, words_are, words_few}
-use Rattle.livepoint_format.proofs.HeaderLaws.{test_spells, small_spells, within_spells, below_spells, test_of_within, within_of_test, pair_spells, tested_pairs}
+use Rattle.livepoint_format.proofs.HeaderLaws.{test_spells, small_spells, within_spells, below_spells, tested_pairs}
 
 turned : (b : Bool) → not b ≡ true → b ≡ false
 turned true e = absurd cc

@@ -1,8 +1,7 @@
 -- Reading a library from left to right. The first fault that is met is the answer.
-use Rattle.std.specs.Prelude.{◌≡◌, ℕ, ◌+◌, ◌^◌, ◌==◌, nat_lt, nat_le, Bool, true, false, not, if◌then◌else◌, Option, Some, None, Result, Ok, Err, List, [], ◌∷◌, ◌++◌, length, slice_get, ◌-◌}
+use Rattle.std.specs.Prelude.{ℕ, ◌+◌, ◌^◌, ◌==◌, nat_lt, nat_le, Bool, true, false, not, if◌then◌else◌, Result, Ok, Err, List, [], ◌∷◌, length, slice_get, ◌-◌}
 use Rattle.std.specs.List.{list_any}
 use Rattle.std.specs.Int.{Width, w8, w32, w64}
-use Rattle.sample_design.specs.declared.design.Design.{Design}
 use Rattle.sample_design.specs.declared.units.UnitsFault.{UnitsFault}
 use Rattle.sample_design.specs.Units.{units_of}
 use Rattle.lru_plain.specs.Shape.{Shape, sets_of}

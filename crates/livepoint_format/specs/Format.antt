@@ -1,6 +1,5 @@
 -- The bytes of a library, and the values that they may have.
-use Rattle.std.specs.Prelude.{◌≡◌, ℕ, ◌+◌, ◌-◌, ◌*◌, ◌%◌, ◌^◌, ◌<◌, ◌≤◌, ◌==◌, ◌&&◌, ◌||◌, nat_lt, nat_le, Bool, true, false, Option, Some, None, Ok, List, [], ◌∷◌, ◌++◌, length, drop, sum_by, flat_map, slice_index, slice_index_or, All, is_none}
-use Rattle.std.specs.List.{list_any}
+use Rattle.std.specs.Prelude.{◌≡◌, ℕ, ◌+◌, ◌*◌, ◌%◌, ◌^◌, ◌<◌, ◌≤◌, ◌==◌, ◌&&◌, nat_lt, nat_le, Bool, true, false, Option, Some, None, Ok, List, [], ◌∷◌, ◌++◌, length, drop, sum_by, flat_map, slice_index, slice_index_or, All, is_none}
 use Rattle.std.specs.Int.{w8, w32, w64, to_le_bytes}
 use Rattle.sample_design.specs.declared.design.Design.{Design}
 use Rattle.sample_design.specs.Order.{order_of}

@@ -1,5 +1,5 @@
 -- What ties the bytes of libraries, the values that they tell and the reading from left to right.
-use Rattle.std.specs.Prelude.{◌≡◌, ◌↔◌, ℕ, ◌<◌, ◌≤◌, true, Result, Ok, Err, List, [], length, take, slice_index}
+use Rattle.std.specs.Prelude.{◌≡◌, ◌↔◌, ℕ, ◌<◌, true, Ok, Err, List, [], length, take, slice_index}
 use Rattle.live_words.specs.Follow.{Follow}
 use Rattle.live_words.specs.Words.{IsPair, AreWords}
 use Rattle.smarts_base.specs.declared.refusal.Refusal.{Refusal}

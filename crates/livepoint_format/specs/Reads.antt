@@ -1,5 +1,5 @@
 -- What a call answers that reads from a spot on.
-use Rattle.std.specs.Prelude.{◌≡◌, ℕ, ◌+◌, ◌<◌, ◌≤◌, ◌^◌, Bool, true, false, Result, Ok, Err, List, length, slice_index}
+use Rattle.std.specs.Prelude.{◌≡◌, ℕ, ◌+◌, ◌<◌, ◌^◌, Bool, true, false, Result, Ok, Err, List, length, slice_index}
 use Rattle.smarts_base.specs.declared.refusal.Refusal.{Refusal}
 use Rattle.smarts_base.specs.declared.refusal.Refusal.TheVariants.{Fault, NoMemory}
 use Rattle.livepoint_format.specs.declared.fault.LibraryFault.{LibraryFault}

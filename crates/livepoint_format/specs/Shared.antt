@@ -1,5 +1,5 @@
 -- The words of a point beside the table of shared pairs: its own pairs, and runs of the table.
-use Rattle.std.specs.Prelude.{ℕ, suc, ◌+◌, ◌==◌, ◌&&◌, nat_lt, Bool, true, not, is_none, if◌then◌else◌, Option, List, [], ◌∷◌, take, drop, filter, filter_map, flat_map}
+use Rattle.std.specs.Prelude.{ℕ, suc, ◌==◌, ◌&&◌, nat_lt, Bool, true, is_none, if◌then◌else◌, Option, List, [], ◌∷◌, take, drop, filter, filter_map, flat_map}
 use Rattle.std.specs.List.{position_from}
 
 -- own pairs, and runs as a first place of the table and a count

@@ -1,5 +1,5 @@
 -- Headers and libraries as the values that their bytes tell.
-use Rattle.std.specs.Prelude.{◌≡◌, ◌<◌, ◌^◌, ℕ, List, [], length}
+use Rattle.std.specs.Prelude.{◌<◌, ◌^◌, [], length}
 use Rattle.live_points.specs.declared.header.Header.{Header}
 use Rattle.live_words.specs.Follow.{Follow}
 use Rattle.live_words.specs.Words.{IsPair}

@@ -126,55 +126,70 @@ fn fault_of(alloc: Global, bytes: &[u8]) -> Option<Refusal<LibraryFault>> {
     decode_library(alloc, bytes).err()
 }
 
-fn field(at: u64) -> LibraryFault {
-    LibraryFault::BadField { at }
-}
+/// A place, how many of the bytes behind it are put there, and the fault that is told then.
+const CHANGES: [(usize, usize, [u8; 4], LibraryFault); 19] = [
+    (0, 1, [88, 0, 0, 0], LibraryFault::BadMagic),
+    (4, 1, [9, 0, 0, 0], LibraryFault::BadVersion),
+    (8, 1, [0, 0, 0, 0], LibraryFault::BadField { at: 8 }),
+    (16, 1, [2, 0, 0, 0], LibraryFault::BadField { at: 16 }),
+    (51, 1, [1, 0, 0, 0], LibraryFault::BadField { at: 51 }),
+    (68, 1, [2, 0, 0, 0], LibraryFault::BadField { at: 77 }),
+    (69, 1, [1, 0, 0, 0], LibraryFault::BadField { at: 69 }),
+    (76, 1, [1, 0, 0, 0], LibraryFault::BadOrder { point: 0 }),
+    (80, 1, [86, 0, 0, 0], LibraryFault::BadField { at: 80 }),
+    (209, 1, [15, 0, 0, 0], LibraryFault::BadField { at: 208 }),
+    (212, 1, [33, 0, 0, 0], LibraryFault::BadField { at: 212 }),
+    (224, 4, [84, 0, 1, 0], LibraryFault::BadWords { point: 0 }),
+    (351, 1, [128, 0, 0, 0], LibraryFault::BadField { at: 344 }),
+    (
+        352,
+        1,
+        [5, 0, 0, 0],
+        LibraryFault::BadRecord {
+            point: 0,
+            place: 0,
+            fault: RecordFault::TooMany { set: 0, place: 0 },
+        },
+    ),
+    (
+        352,
+        1,
+        [1, 0, 0, 0],
+        LibraryFault::BadRecord {
+            point: 0,
+            place: 0,
+            fault: RecordFault::TimeRange { set: 0, place: 0 },
+        },
+    ),
+    (1048, 1, [4, 0, 0, 0], LibraryFault::BadField { at: 1048 }),
+    (5145, 1, [16, 0, 0, 0], LibraryFault::BadField { at: 5144 }),
+    (5148, 1, [4, 0, 0, 0], LibraryFault::BadField { at: 5148 }),
+    (9245, 1, [0, 0, 0, 0], LibraryFault::BadField { at: 9245 }),
+];
 
-fn record(fault: RecordFault) -> LibraryFault {
-    LibraryFault::BadRecord {
-        point: 0,
-        place: 0,
-        fault,
+fn changed(
+    bytes: &Vec<u8>,
+    place: usize,
+    count: usize,
+    new: [u8; 4],
+) -> Result<Vec<u8>, AllocError> {
+    let mut changed = bytes.clone()?;
+    for i in 0..count {
+        if let (Some(old), Some(byte)) = (changed.get_mut(place.wrapping_add(i)), new.get(i)) {
+            *old = *byte;
+        }
     }
+    Ok(changed)
 }
 
-/// A library with bytes from a place on changed is refused as it should be.
 #[test]
 fn names_the_first_fault(rt: HostRuntime) -> Result<(), Fail> {
     let bytes = first_library(rt.alloc())?;
     assert_eq!(rt; bytes.len(), 9249);
     assert!(rt; fault_of(rt.alloc(), &bytes).is_none());
-    let many = RecordFault::TooMany { set: 0, place: 0 };
-    let range = RecordFault::TimeRange { set: 0, place: 0 };
-    let cases: [(usize, &[u8], LibraryFault); 19] = [
-        (0, &[0x58], LibraryFault::BadMagic),
-        (4, &[9], LibraryFault::BadVersion),
-        (8, &[0; 8], field(8)),
-        (16, &[2], field(16)),
-        (51, &[1], field(51)),
-        (68, &[2], field(77)),
-        (69, &[1], field(69)),
-        (76, &[1], LibraryFault::BadOrder { point: 0 }),
-        (80, &[0x56], field(80)),
-        (209, &[0x0F], field(208)),
-        (212, &[33], field(212)),
-        (224, &[0x54, 0, 1, 0], LibraryFault::BadWords { point: 0 }),
-        (351, &[0x80], field(344)),
-        (352, &[5], record(many)),
-        (352, &[1], record(range)),
-        (1048, &[4], field(1048)),
-        (5145, &[0x10], field(5144)),
-        (5148, &[4], field(5148)),
-        (9245, &[0], field(9245)),
-    ];
-    for (place, new, fault) in cases {
-        let mut changed = bytes.clone()?;
-        for (i, byte) in new.iter().enumerate() {
-            if let Some(old) = changed.get_mut(place.wrapping_add(i)) {
-                *old = *byte;
-            }
-        }
-        assert_eq!(rt; fault_of(rt.alloc(), &changed), Some(Refusal::Fault(fault)));
+    for (place, count, new, fault) in CHANGES {
+        let told = fault_of(rt.alloc(), &changed(&bytes, place, count, new)?);
+        assert_eq!(rt; told, Some(Refusal::Fault(fault)), "at {place}");
     }
     Ok(())
 }
@@ -276,7 +291,7 @@ fn takes_parts(rt: HostRuntime) -> Result<(), Fail> {
     if let Ok((header, shared, taken)) = decode_header(rt.alloc(), &bytes) {
         assert_eq!(rt; taken, 88);
         assert_eq!(rt; header.version, 2);
-        assert_eq!(rt; shared.at(0), (4, 1));
+        assert_eq!(rt; shared.as_slice().first().copied(), Some((4, 1)));
         let rest = bytes.get(88..).ok_or("no point")?;
         let read = decode_point(rt.alloc(), &header, &shared, 0, 0, 88, rest);
         if let Ok((point, taken)) = read {

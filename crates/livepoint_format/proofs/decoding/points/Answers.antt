@@ -1,9 +1,8 @@
-use Rattle.std.proofs.Common.{◌≡◌, ◌+◌, ◌∷◌, Ok, ℕ, List, arith, sym, ap, ◌∙◌, length}
+use Rattle.std.proofs.Common.{arith, sym, ap, ◌∙◌, length}
 use Rattle.std.proofs.lemmas.List.{length_push}
-use Rattle.livepoint_format.specs.Format.{unit_of}
 use Rattle.livepoint_format.specs.Reads.{Refuses}
 use Rattle.livepoint_format.specs.Views.{head_of}
-use Rattle.livepoint_format.specs.Decoding.{point_after, point_at}
+use Rattle.livepoint_format.specs.Decoding.{point_after}
 use Rattle.livepoint_format.proofs.Loops.{fails, goes_on, is_done}
 use Rattle.livepoint_format.proofs.decoding.points.Goals as goal
 

@@ -1,7 +1,6 @@
-use Rattle.std.proofs.Common.{◌≡◌, arith, refl, [], take, length, length-take-le}
+use Rattle.std.proofs.Common.{◌≡◌, arith, [], take, length, length-take-le}
 use Rattle.livepoint_format.specs.Reading.{items}
 use Rattle.livepoint_format.specs.Decoding.{entry_after}
-use Rattle.livepoint_format.specs.Entries.{AreRead}
 use Rattle.livepoint_format.proofs.EntriesLemmas.{passed_if, read_at_once}
 use Rattle.livepoint_format.proofs.entries.at_once.Goals as goal
 

@@ -1,4 +1,4 @@
-use Rattle.std.proofs.Common.{◌≡◌, ◌*◌, ◌+◌, arith, sym, ◌∙◌, None, take, length-set}
+use Rattle.std.proofs.Common.{◌≡◌, arith, sym, ◌∙◌, None, take, length-set}
 use Rattle.recency_record.specs.declared.entry.Entry.{Entry}
 use Rattle.recency_record.specs.Faults.{entry_fault}
 use Rattle.livepoint_format.specs.Reads.{IsBytes}

@@ -1,4 +1,4 @@
-use Rattle.std.proofs.Common.{◌≡◌, ◌≤◌, true, length, take, arith, sym, ◌∙◌, ap}
+use Rattle.std.proofs.Common.{◌≡◌, true, take, sym, ◌∙◌, ap}
 use Rattle.predictor.specs.Parts.{is_counter}
 use Rattle.livepoint_format.specs.Image.{greatest}
 use Rattle.livepoint_format.proofs.ImageLemmas.{counters_at_once}

@@ -1,6 +1,5 @@
 use Rattle.std.proofs.Common.{arith}
 use Rattle.livepoint_format.specs.Decoding.{counter_after}
-use Rattle.livepoint_format.specs.Reads.{Refuses}
 use Rattle.livepoint_format.proofs.Loops.{fails}
 use Rattle.livepoint_format.proofs.image.counters_one_by_one.Goals as goal
 

@@ -1,8 +1,8 @@
-use Rattle.std.proofs.Common.{◌≡◌, ◌+◌, ◌∷◌, Ok, ℕ, List, arith, sym, ap, ◌∙◌, length}
+use Rattle.std.proofs.Common.{◌≡◌, Ok, List, arith, sym, ap, ◌∙◌, length}
 use Rattle.std.proofs.lemmas.List.{length_push}
 use Rattle.livepoint_format.specs.Format.{kind_at}
 use Rattle.livepoint_format.specs.Reads.{Refuses}
-use Rattle.livepoint_format.specs.Decoding.{image_after, image_at}
+use Rattle.livepoint_format.specs.Decoding.{image_after}
 use Rattle.livepoint_format.proofs.Loops.{fails, goes_on, is_done}
 use Rattle.livepoint_format.proofs.Follows.{some_at}
 use Rattle.livepoint_format.proofs.PointLaws.{kind_is}

@@ -1,4 +1,4 @@
-use Rattle.std.proofs.Common.{◌≡◌, ◌+◌, ◌∷◌, Ok, ℕ, List, arith, sym, ap, ◌∙◌, drop, take, length, length-set, length-drop}
+use Rattle.std.proofs.Common.{◌+◌, Ok, ℕ, List, arith, sym, ap, ◌∙◌, drop, take, length-set, length-drop}
 use Rattle.std.proofs.lemmas.List.{take_all}
 use Rattle.livepoint_format.specs.Decoding.{register_after, registers_count}
 use Rattle.livepoint_format.proofs.Loops.{fails, goes_on, is_done}

@@ -1,8 +1,8 @@
-use Rattle.std.proofs.Common.{◌≡◌, ◌+◌, ◌++◌, [], ◌∷◌, Ok, arith, sym, ap, ◌∙◌, take, length, sum, List, length-take-le, length-append}
+use Rattle.std.proofs.Common.{◌≡◌, ◌++◌, [], ◌∷◌, arith, sym, ap, ◌∙◌, take, length, sum, List, length-take-le, length-append}
 use Rattle.std.proofs.lemmas.List.{length_push}
 use Rattle.recency_record.specs.declared.entry.Entry.{Entry}
 use Rattle.recency_record.specs.Faults.{dealt}
-use Rattle.livepoint_format.specs.Decoding.{set_after, set_at}
+use Rattle.livepoint_format.specs.Decoding.{set_after}
 use Rattle.livepoint_format.specs.Reads.{Refuses}
 use Rattle.livepoint_format.proofs.Loops.{fails, goes_on, is_done}
 use Rattle.livepoint_format.proofs.SnapshotLemmas.{dealt_more, sum_more, set_here}

@@ -1,5 +1,4 @@
-use Rattle.std.proofs.Common.{◌≡◌, ◌≤◌, None, arith}
-use Rattle.lru_plain.specs.Shape.{sets_of}
+use Rattle.std.proofs.Common.{◌≡◌, None, arith}
 use Rattle.recency_record.specs.Faults.{sets_fault, dealt}
 use Rattle.recency_record.proofs.Rows.{sets_few}
 use Rattle.livepoint_format.proofs.SnapshotLemmas.{sound_of_read}
