@@ -129,6 +129,12 @@ pub claimed :
 claimed slots start t d some =
     rw (get_or_default slots (place_of slots t) d (idle (start + t)) (mod_below t (length slots) some)) refl
 
+pub claimed_own :
+    (slots : List Slot) (start t : ℕ) (d : Slot) → 0 < length slots → (get_or slots (place_of slots t) d).cycle ≡ start + t
+    → get_or slots (place_of slots t) d ≡ slot_at slots start t
+claimed_own slots start t d some own =
+    sym (chosen_same (get_or slots (place_of slots t) d) (start + t) own) ∙ claimed slots start t d some
+
 -- what holds of each holds of one that is read, and stays so where one is put
 each_get_or : {X : Type 0} (P : X → Type 0) (xs : List X) (i : ℕ) (d : X) → i < length xs → AllByRecursion P xs → P (get_or xs i d)
 each_get_or P [] i d below each = absurd (let h : i < 0 = below in omega arith)
