@@ -2,7 +2,7 @@
 use Rattle.std.proofs.Common.{◌≡◌, ◌≢◌, ◌+◌, ◌-◌, ◌*◌, ◌/◌, ◌%◌, ◌<◌, ◌≤◌, ◌==◌, ℕ, zero, suc, Bool, true, false, cond, if◌then◌else◌, List, [], ◌∷◌, length, get_or, set, filter, nat_lt, refl, sym, ◌∙◌, ap, arith, inl, inr}
 use Rattle.std.specs.Int.Bits.{bit_and}
 use Rattle.std.proofs.Math.Nat.{div-add-mod, mul-le-mul_left, mul-suc}
-use Rattle.std.proofs.lemmas.Bool.{ltb-true, and_parts, cases_eq, cases_lt, lt-ltb, eq-eqb, ne_eqb}
+use Rattle.std.proofs.lemmas.Bool.{ltb-true, and_parts, cases_eq, cases_lt, false≢true, lt-ltb, eq-eqb, ne_eqb}
 use Rattle.std.proofs.lemmas.Nat.{mod_below, and_mask, pow_pos}
 use Rattle.std.proofs.lemmas.List.{get_or-set_same, get_or-set_other, get_or-replicate, get_or_default, length-set}
 use Rattle.rv_isa.specs.declared.roles.Class.{Class}
@@ -302,6 +302,16 @@ room_behind w slots start class last t widths some before late =
     let wide : nat_lt 0 w.issue ≡ true = lt-ltb 0 w.issue (omega (arith, widths.issue.0)) in
     let limited : nat_lt 0 (limit_of w class) ≡ true = lt-ltb 0 (limit_of w class) ((limit_range w class widths).0) in
     rw (gone, get_or-replicate {A = ℕ} 7 (number_of class) 0 0 (number_below class), wide, limited) refl
+
+-- so one without room is none behind it
+pub no_room_within :
+    (w : Widths) (slots : List Slot) (start : ℕ) (class : Class) (last t : ℕ) → AreWidths w → 0 < length slots
+    → AllByRecursion (λ s. s.cycle ≤ start + last) slots → has_room w slots start class t ≡ false → t ≤ last
+no_room_within w slots start class last t widths some before none =
+    elim (cases_lt last t) [
+      | inl lt ↦ absurd (false≢true (sym none ∙ room_behind w slots start class last t widths some before lt))
+      | inr ge ↦ ge
+    ]
 
 -- one more cycle without room
 pub none_more :

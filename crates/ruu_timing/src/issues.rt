@@ -113,7 +113,11 @@ pub(crate) fn first_room(
     ensures bound { result ≤ max ready (last + 1) }
 {
     let limit = limit_of(w, class);
-    let mut t = ready;
+    // Most find room at once.
+    if has_room(w, limit, slots, start, class, ready) {
+        return ready;
+    }
+    let mut t = ready + 1;
     'wait: while !has_room(w, limit, slots, start, class, t) {
         t += 1;
     }
