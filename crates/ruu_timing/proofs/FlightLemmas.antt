@@ -9,10 +9,10 @@ use Rattle.hierarchy.specs.declared.marked.Marked.{Marked}
 use Rattle.hierarchy.specs.declared.widths.Widths.{Widths}
 use Rattle.rv_isa.specs.declared.roles.Class.{Class}
 use Rattle.ruu_timing.specs.Class.{is_ecall, is_load, is_store}
-use Rattle.ruu_timing.specs.Flight.{Falls, HasWritten, IsKept, IsRegister, completion_in, late, row_back, row_of, store_ones, store_row_of, timed_with, written_in}
+use Rattle.ruu_timing.specs.Flight.{Falls, HasWritten, IsKept, IsRegister, completion_in, late, dispatch_or, next_or, retirement_or, store_ones, store_row_of, timed_with, written_in}
 use Rattle.ruu_timing.specs.Issues.{HasIssued, dispatched, has_room}
 use Rattle.ruu_timing.specs.Laws.{IsFirst}
-use Rattle.ruu_timing.specs.Ring.{IsRing, ring_place}
+use Rattle.ruu_timing.specs.Ring.{IsRing, ring_place, time_back}
 use Rattle.ruu_timing.specs.Timed.{AreInOrder, AreTimed, last_of}
 use Rattle.ruu_timing.specs.Times.{back, dispatch_of, elapse_of, fetch_of, is_given, issue_of, memory_ones, ready_of, register_time, retirement_of, source_of, stores_to, time_of, timed_of}
 use Rattle.ruu_timing.specs.declared.flight.Cycles.{Cycles}
@@ -25,35 +25,31 @@ use Rattle.ruu_timing.proofs.LawsLemmas.{first_is_issue}
 use Rattle.ruu_timing.proofs.ListLemmas.{each_filter, each_find}
 use Rattle.ruu_timing.proofs.TimedLemmas.{IsDispatch, dispatched_before, ready_soon, retired, retired_in_order, source_each}
 
--- the row of the k-th instruction back
-row_is :
+-- the times of the k-th instruction back
+next_is :
     (w : Widths) (earlier : List Timed) (f : Flight) (k : ℕ) → IsKept w earlier f → 1 ≤ k → k ≤ 256
-    → row_back f k ≡ row_of (back earlier k)
-row_is w earlier f k kept some le = rw kept.count (kept.rows.each k some le)
+    → time_back f.fetches f.count k ≡ next_or (back earlier k)
+next_is w earlier f k kept some le = rw kept.count (kept.fetches.each k some le)
 
-row_dispatch : (found : Option Timed) → (row_of found).dispatch ≡ time_of (λ x. x.dispatch) found
-row_dispatch None = refl
-row_dispatch (Some x) = refl
+dispatched_is :
+    (w : Widths) (earlier : List Timed) (f : Flight) (k : ℕ) → IsKept w earlier f → 1 ≤ k → k ≤ 256
+    → time_back f.dispatches f.count k ≡ dispatch_or (back earlier k)
+dispatched_is w earlier f k kept some le = rw kept.count (kept.dispatches.each k some le)
 
-row_next : (found : Option Timed) → (row_of found).next ≡ time_of (λ x. x.fetch + 1) found
-row_next None = refl
-row_next (Some x) = refl
-
-row_retirement : (found : Option Timed) → (row_of found).retirement ≡ time_of (λ x. x.retirement) found
-row_retirement None = refl
-row_retirement (Some x) = refl
+retired_is :
+    (w : Widths) (earlier : List Timed) (f : Flight) (k : ℕ) → IsKept w earlier f → 1 ≤ k → k ≤ 256
+    → time_back f.retirements f.count k ≡ retirement_or (back earlier k)
+retired_is w earlier f k kept some le = rw kept.count (kept.retirements.each k some le)
 
 pub fetch_is :
     (w : Widths) (earlier : List Timed) (f : Flight) (m : Marked) → AreWidths w → IsKept w earlier f
-    → max f.next (max (row_back f w.queue).dispatch (row_back f w.fetch).next) + m.stall ≡ fetch_of w earlier m
+    → max f.next (max (time_back f.dispatches f.count w.queue) (time_back f.fetches f.count w.fetch)) + m.stall ≡ fetch_of w earlier m
 unfolding fetch_of
 fetch_is w earlier f m widths kept =
     rw (
       kept.next,
-      row_is w earlier f w.queue kept widths.queue.0 (omega (arith, widths.queue.1)),
-      row_is w earlier f w.fetch kept widths.fetch.0 (omega (arith, widths.fetch.1)),
-      row_dispatch (back earlier w.queue),
-      row_next (back earlier w.fetch),
+      dispatched_is w earlier f w.queue kept widths.queue.0 (omega (arith, widths.queue.1)),
+      next_is w earlier f w.fetch kept widths.fetch.0 (omega (arith, widths.fetch.1)),
     ) refl
 
 -- one more where there is one makes no difference behind what is later anyway
@@ -65,35 +61,32 @@ one_later time (Some x) n m k some = refl
 
 pub dispatch_is :
     (w : Widths) (earlier : List Timed) (f : Flight) (m : Marked) (fetch : ℕ) → AreWidths w → IsKept w earlier f
-    → max (max (fetch + 1) (max f.dispatched ((row_back f w.dispatch).dispatch + 1)))
-    (max (row_back f w.ruu).retirement
-    (max (if accesses_memory m.class then get_or f.accesses (ring_place f.accessed w.lsq) 0 else 0)
+    → max (max (fetch + 1) (max f.dispatched (time_back f.dispatches f.count w.dispatch + 1)))
+    (max (time_back f.retirements f.count w.ruu)
+    (max (if accesses_memory m.class then time_back f.accesses f.accessed w.lsq else 0)
     (if is_ecall m.class then f.retired else 0)))
     ≡ dispatch_of w earlier m fetch
 unfolding dispatch_of
 dispatch_is w earlier f m fetch widths kept =
-    let memory : get_or f.accesses (ring_place f.accessed w.lsq) 0 ≡ time_of (λ x. x.retirement) (back (memory_ones earlier) w.lsq) =
+    let memory : time_back f.accesses f.accessed w.lsq ≡ time_of (λ x. x.retirement) (back (memory_ones earlier) w.lsq) =
     rw kept.accessed (kept.accesses.each w.lsq (omega (arith, widths.lsq.0)) (omega (arith, widths.lsq.1))) in
     rw (
       kept.dispatched,
       kept.retired,
       memory,
-      row_is w earlier f w.dispatch kept widths.dispatch.0 (omega (arith, widths.dispatch.1)),
-      row_is w earlier f w.ruu kept (omega (arith, widths.ruu.0)) widths.ruu.1,
-      row_dispatch (back earlier w.dispatch),
-      row_retirement (back earlier w.ruu),
+      dispatched_is w earlier f w.dispatch kept widths.dispatch.0 (omega (arith, widths.dispatch.1)),
+      retired_is w earlier f w.ruu kept (omega (arith, widths.ruu.0)) widths.ruu.1,
       one_later (λ x. x.dispatch) (back earlier w.dispatch) (fetch + 1) (dispatched earlier) 0 (omega arith),
     ) refl
 
 pub retirement_is :
     (w : Widths) (earlier : List Timed) (f : Flight) (completion : ℕ) → AreWidths w → IsKept w earlier f
-    → max (completion + 1) (max f.retired ((row_back f w.retire).retirement + 1)) ≡ retirement_of w earlier completion
+    → max (completion + 1) (max f.retired (time_back f.retirements f.count w.retire + 1)) ≡ retirement_of w earlier completion
 unfolding retirement_of
 retirement_is w earlier f completion widths kept =
     rw (
       kept.retired,
-      row_is w earlier f w.retire kept widths.retire.0 (omega (arith, widths.retire.1)),
-      row_retirement (back earlier w.retire),
+      retired_is w earlier f w.retire kept widths.retire.0 (omega (arith, widths.retire.1)),
       one_later (λ x. x.retirement) (back earlier w.retire) (completion + 1) (last_of earlier) 0 (omega arith),
     ) refl
 

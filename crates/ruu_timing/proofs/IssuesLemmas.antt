@@ -2,7 +2,7 @@
 use Rattle.std.proofs.Common.{◌≡◌, ◌≢◌, ◌+◌, ◌-◌, ◌*◌, ◌/◌, ◌%◌, ◌<◌, ◌≤◌, ◌==◌, ℕ, zero, suc, Bool, true, false, cond, if◌then◌else◌, List, [], ◌∷◌, length, get_or, set, filter, nat_lt, refl, sym, ◌∙◌, ap, arith, inl, inr}
 use Rattle.std.specs.Int.Bits.{bit_and}
 use Rattle.std.proofs.Math.Nat.{div-add-mod, mul-le-mul_left, mul-suc}
-use Rattle.std.proofs.lemmas.Bool.{ltb-true, and_parts, cases_eq, cases_lt, lt-ltb, eq-eqb, ne_eqb}
+use Rattle.std.proofs.lemmas.Bool.{ltb-true, and_parts, cases_eq, cases_lt, false≢true, lt-ltb, eq-eqb, ne_eqb}
 use Rattle.std.proofs.lemmas.Nat.{mod_below, and_mask, pow_pos}
 use Rattle.std.proofs.lemmas.List.{get_or-set_same, get_or-set_other, get_or-replicate, get_or_default, length-set}
 use Rattle.rv_isa.specs.declared.roles.Class.{Class}
@@ -128,6 +128,12 @@ pub claimed :
     ≡ slot_at slots start t
 claimed slots start t d some =
     rw (get_or_default slots (place_of slots t) d (idle (start + t)) (mod_below t (length slots) some)) refl
+
+pub claimed_own :
+    (slots : List Slot) (start t : ℕ) (d : Slot) → 0 < length slots → (get_or slots (place_of slots t) d).cycle ≡ start + t
+    → get_or slots (place_of slots t) d ≡ slot_at slots start t
+claimed_own slots start t d some own =
+    sym (chosen_same (get_or slots (place_of slots t) d) (start + t) own) ∙ claimed slots start t d some
 
 -- what holds of each holds of one that is read, and stays so where one is put
 each_get_or : {X : Type 0} (P : X → Type 0) (xs : List X) (i : ℕ) (d : X) → i < length xs → AllByRecursion P xs → P (get_or xs i d)
@@ -296,6 +302,16 @@ room_behind w slots start class last t widths some before late =
     let wide : nat_lt 0 w.issue ≡ true = lt-ltb 0 w.issue (omega (arith, widths.issue.0)) in
     let limited : nat_lt 0 (limit_of w class) ≡ true = lt-ltb 0 (limit_of w class) ((limit_range w class widths).0) in
     rw (gone, get_or-replicate {A = ℕ} 7 (number_of class) 0 0 (number_below class), wide, limited) refl
+
+-- so one without room is none behind it
+pub no_room_within :
+    (w : Widths) (slots : List Slot) (start : ℕ) (class : Class) (last t : ℕ) → AreWidths w → 0 < length slots
+    → AllByRecursion (λ s. s.cycle ≤ start + last) slots → has_room w slots start class t ≡ false → t ≤ last
+no_room_within w slots start class last t widths some before none =
+    elim (cases_lt last t) [
+      | inl lt ↦ absurd (false≢true (sym none ∙ room_behind w slots start class last t widths some before lt))
+      | inr ge ↦ ge
+    ]
 
 -- one more cycle without room
 pub none_more :

@@ -9,13 +9,12 @@ use Rattle.hierarchy.specs.declared.marked.Marked.{Marked}
 use Rattle.hierarchy.specs.declared.widths.Widths.{Widths}
 use Rattle.rv_isa.specs.declared.roles.Class.{Class}
 use Rattle.ruu_timing.specs.Class.{is_store}
-use Rattle.ruu_timing.specs.Flight.{HasWritten, IsCleared, IsFlight, IsKept, IsNoted, IsSmallRow, IsSmallStore, retirement_or, row_of, span, store_row_of, written_by}
+use Rattle.ruu_timing.specs.Flight.{AreSmall, HasWritten, IsCleared, IsFlight, IsKept, IsNoted, IsSmallStore, dispatch_or, next_or, retirement_or, span, store_row_of, written_by}
 use Rattle.ruu_timing.specs.Issues.{HasIssued, IsPower, dispatched, issued_in, one_more, place_of, slot_at}
 use Rattle.ruu_timing.specs.Ring.{IsRing, ring_place}
 use Rattle.ruu_timing.specs.Timed.{AreTimed, IsWithin, last_of}
 use Rattle.ruu_timing.specs.Times.{back, dispatch_of, elapse_of, fetch_of, is_given, issue_of, ready_of, retirement_of, time_of, timed_of, times, writes}
 use Rattle.ruu_timing.specs.declared.flight.Flight.{Flight}
-use Rattle.ruu_timing.specs.declared.flight.Row.{Row}
 use Rattle.ruu_timing.specs.declared.flight.StoreRow.{StoreRow}
 use Rattle.ruu_timing.specs.declared.issues.Slot.{Slot}
 use Rattle.ruu_timing.specs.declared.timed.Timed.{Timed}
@@ -101,6 +100,9 @@ set_each P (z ∷ zs) zero y d each here (suc k) = each (suc k)
 set_each P (z ∷ zs) (suc i) y d each here zero = each zero
 set_each P (z ∷ zs) (suc i) y d each here (suc k) = set_each P zs i y d (λ j. each (suc j)) here k
 
+small_more : (ring : List ℕ) (i t : ℕ) → AreSmall ring → t ≤ 2 ^ 29 + 1 → AreSmall (set ring i t)
+small_more ring i t small le = set_each (λ r. r ≤ 2 ^ 29 + 1) ring i t 0 small le
+
 if_each : {Y : Type 0} (P : Y → Type 0) (b : Bool) (ys zs : List Y) (d : Y) → ((k : ℕ) → P (get_or ys k d)) → ((k : ℕ) → P (get_or zs k d)) → (k : ℕ) → P (get_or (if b then ys else zs) k d)
 if_each P true ys zs d first second = first
 if_each P false ys zs d first second = second
@@ -125,14 +127,12 @@ flight_next w earlier x f g widths few kept noted timed issued =
     let last : x.retirement ≤ 2 ^ 29 = last_small (x ∷ earlier) timed in
     let within : IsWithin x.retirement x = timed.each.0 in
     let size : length g.slots.items ≡ length f.slots.items = rw noted.slots (slots_size f.slots.items f.start x.mark.class x.issue) in
-    let row : IsSmallRow (row_of (Some x)) = record {
-      next = omega (arith, within.fetch);
-      dispatch = omega (arith, within.dispatch);
-      retirement = omega arith;
-    } in
+    let small : x.retirement ≤ 2 ^ 29 + 1 = omega (arith, last) in
     let store : IsSmallStore (store_row_of (Some x)) = record { completion = omega (arith, within.completion); retirement = omega arith } in
     record {
-      rows = rw noted.rows (length-set f.rows (f.count % 256) (row_of (Some x)) ∙ old.rows);
+      fetches = rw noted.fetches (length-set f.fetches (f.count % 256) (x.fetch + 1) ∙ old.fetches);
+      dispatches = rw noted.dispatches (length-set f.dispatches (f.count % 256) x.dispatch ∙ old.dispatches);
+      retirements = rw noted.retirements (length-set f.retirements (f.count % 256) x.retirement ∙ old.retirements);
       accesses = rw noted.accesses (if_length (accesses_memory x.mark.class) (set f.accesses (f.accessed % 256) x.retirement) f.accesses 256
           (length-set f.accesses (f.accessed % 256) x.retirement ∙ old.accesses) old.accesses);
       stores = rw noted.stores (if_length (is_store x.mark.class) (set f.stores (f.stored % 256) (store_row_of (Some x))) f.stores 256
@@ -141,12 +141,14 @@ flight_next w earlier x f g widths few kept noted timed issued =
       power = rw size old.power;
       wide = rw size old.wide;
       size = rw size old.size;
-      small_rows = rw noted.rows (set_each IsSmallRow f.rows (f.count % 256) (row_of (Some x)) (row_of None) old.small_rows row);
-      small_accesses = rw noted.accesses (if_each (λ r. r ≤ 2 ^ 29) (accesses_memory x.mark.class) (set f.accesses (f.accessed % 256) x.retirement) f.accesses 0
-          (set_each (λ r. r ≤ 2 ^ 29) f.accesses (f.accessed % 256) x.retirement 0 old.small_accesses last) old.small_accesses);
+      small_fetches = rw noted.fetches (small_more f.fetches (f.count % 256) (x.fetch + 1) old.small_fetches (omega (arith, last, within.fetch)));
+      small_dispatches = rw noted.dispatches (small_more f.dispatches (f.count % 256) x.dispatch old.small_dispatches (omega (arith, last, within.dispatch)));
+      small_retirements = rw noted.retirements (small_more f.retirements (f.count % 256) x.retirement old.small_retirements small);
+      small_accesses = rw noted.accesses (if_each (λ r. r ≤ 2 ^ 29 + 1) (accesses_memory x.mark.class) (set f.accesses (f.accessed % 256) x.retirement) f.accesses 0
+          (small_more f.accesses (f.accessed % 256) x.retirement old.small_accesses small) old.small_accesses);
       small_stores = rw noted.stores (if_each IsSmallStore (is_store x.mark.class) (set f.stores (f.stored % 256) (store_row_of (Some x))) f.stores (store_row_of None)
           (set_each IsSmallStore f.stores (f.stored % 256) (store_row_of (Some x)) (store_row_of None) old.small_stores store) old.small_stores);
-      small_registers = rw noted.registers (written_each f.registers x.mark.dest x.completion (2 ^ 29) old.small_registers (omega (arith, within.completion)));
+      small_registers = rw noted.registers (written_each f.registers x.mark.dest x.completion (2 ^ 29 + 1) old.small_registers (omega (arith, within.completion)));
       counts = (
         omega (arith, noted.count, kept.count),
         rw (noted.accessed, kept.accessed, count_more (λ y. accesses_memory y.mark.class) earlier x)
@@ -179,7 +181,9 @@ kept_next w earlier m f g widths marked few kept noted =
       count = omega (arith, noted.count, kept.count);
       accessed = noted.accessed ∙ rw kept.accessed (count_more (λ y. accesses_memory y.mark.class) earlier x);
       stored = noted.stored ∙ rw kept.stored (count_more (λ y. is_store y.mark.class) earlier x);
-      rows = rw (noted.rows, kept.count) (ring_more row_of earlier f.rows x kept.rows);
+      fetches = rw (noted.fetches, kept.count) (ring_more next_or earlier f.fetches x kept.fetches);
+      dispatches = rw (noted.dispatches, kept.count) (ring_more dispatch_or earlier f.dispatches x kept.dispatches);
+      retirements = rw (noted.retirements, kept.count) (ring_more retirement_or earlier f.retirements x kept.retirements);
       accesses = rw (noted.accesses, kept.accessed) (some_more retirement_or (λ y. accesses_memory y.mark.class) earlier x f.accesses kept.accesses);
       stores = rw (noted.stores, kept.stored) (some_more store_row_of (λ y. is_store y.mark.class) earlier x f.stores kept.stores);
       next = noted.next;
@@ -212,19 +216,25 @@ kept_none w f widths is power wide size before sevens start =
     let registers : (k : ℕ) → get_or f.registers k 0 ≡ 0 = λ k. rw is.registers (replicated {Y = ℕ} 256 0 k) in
     let some : 0 < length f.slots.items = omega (arith, wide, widths.ruu.0) in
     let slots : HasIssued [] f.slots.items f.start = none_issued f.slots.items f.start some before sevens in
-    let rows : IsRing row_of [] f.rows = ring_none row_of f.rows is.rows in
+    let fetches : IsRing next_or [] f.fetches = ring_none next_or f.fetches is.fetches in
+    let dispatches : IsRing dispatch_or [] f.dispatches = ring_none dispatch_or f.dispatches is.dispatches in
+    let retirements : IsRing retirement_or [] f.retirements = ring_none retirement_or f.retirements is.retirements in
     let accesses : IsRing retirement_or [] f.accesses = ring_none retirement_or f.accesses is.accesses in
     let stores : IsRing store_row_of [] f.stores = ring_none store_row_of f.stores is.stores in
     record {
       flight = record {
-        rows = rows.size;
+        fetches = fetches.size;
+        dispatches = dispatches.size;
+        retirements = retirements.size;
         accesses = accesses.size;
         stores = stores.size;
         registers = ap (λ (l : List ℕ). length l) is.registers ∙ length-replicate {A = ℕ} 256 0;
         power = power;
         wide = wide;
         size = size;
-        small_rows = λ k. rw (is.rows, replicated {Y = Row} 256 (row_of None) k) (record { next = omega arith; dispatch = omega arith; retirement = omega arith });
+        small_fetches = λ k. rw (is.fetches, replicated {Y = ℕ} 256 0 k) (omega arith);
+        small_dispatches = λ k. rw (is.dispatches, replicated {Y = ℕ} 256 0 k) (omega arith);
+        small_retirements = λ k. rw (is.retirements, replicated {Y = ℕ} 256 0 k) (omega arith);
         small_accesses = λ k. rw (is.accesses, replicated {Y = ℕ} 256 0 k) (omega arith);
         small_stores = λ k. rw (is.stores, replicated {Y = StoreRow} 256 (store_row_of None) k) (record { completion = omega arith; retirement = omega arith });
         small_registers = λ k. rw (registers k) (omega arith);
@@ -240,7 +250,9 @@ kept_none w f widths is power wide size before sevens start =
       count = is.count;
       accessed = is.accessed;
       stored = is.stored;
-      rows = rows;
+      fetches = fetches;
+      dispatches = dispatches;
+      retirements = retirements;
       accesses = accesses;
       stores = stores;
       next = is.next;

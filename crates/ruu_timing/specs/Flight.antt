@@ -6,12 +6,11 @@ use Rattle.hierarchy.specs.declared.marked.Marked.{Marked}
 use Rattle.hierarchy.specs.declared.widths.Widths.{Widths}
 use Rattle.hierarchy.specs.Marked.{accesses_memory}
 use Rattle.ruu_timing.specs.declared.timed.Timed.{Timed}
-use Rattle.ruu_timing.specs.declared.flight.Row.{Row}
 use Rattle.ruu_timing.specs.declared.flight.StoreRow.{StoreRow}
 use Rattle.ruu_timing.specs.declared.flight.Flight.{Flight}
 use Rattle.ruu_timing.specs.declared.flight.Cycles.{Cycles}
 use Rattle.ruu_timing.specs.Class.{is_store}
-use Rattle.ruu_timing.specs.Ring.{IsRing, ring_place}
+use Rattle.ruu_timing.specs.Ring.{IsRing}
 use Rattle.ruu_timing.specs.Issues.{HasIssued, IsPower, dispatched, issued_in}
 use Rattle.ruu_timing.specs.Timed.{AreTimed, last_of}
 use Rattle.ruu_timing.specs.Times.{back, time_of, next_fetch, memory_ones, register_time}
@@ -28,24 +27,23 @@ timed_with m c = record {
 }
 
 -- what is kept of an instruction, and zeros where there is none
-abbrev pub row_of : Option Timed → Row
-row_of None = record { next = 0; dispatch = 0; retirement = 0 }
-row_of (Some x) = record { next = x.fetch + 1; dispatch = x.dispatch; retirement = x.retirement }
+abbrev pub next_or : Option Timed → ℕ
+next_or found = time_of (λ x. x.fetch + 1) found
 
--- the same of a store
-abbrev pub store_row_of : Option Timed → StoreRow
-store_row_of None = record { word = None; completion = 0; retirement = 0 }
-store_row_of (Some x) = record { word = x.mark.word; completion = x.completion; retirement = x.retirement }
+abbrev pub dispatch_or : Option Timed → ℕ
+dispatch_or found = time_of (λ x. x.dispatch) found
 
 abbrev pub retirement_or : Option Timed → ℕ
 retirement_or found = time_of (λ x. x.retirement) found
 
+-- and of a store
+abbrev pub store_row_of : Option Timed → StoreRow
+store_row_of None = record { word = None; completion = 0; retirement = 0 }
+store_row_of (Some x) = record { word = x.mark.word; completion = x.completion; retirement = x.retirement }
+
 -- the stores among the instructions
 abbrev pub store_ones : List Timed → List Timed
 store_ones earlier = filter (λ x. is_store x.mark.class) earlier
-
-abbrev pub row_back : Flight → ℕ → Row
-row_back f k = get_or f.rows (ring_place f.count k) (row_of None)
 
 -- each register's last writer has completed by the time in the table
 abbrev pub HasWritten : List Timed → List ℕ → Type 0
@@ -85,10 +83,8 @@ abbrev pub span : Widths → ℕ
 span w = 1280 * w.ruu
 
 -- times within their bound
-pub record IsSmallRow (r : Row) : Type 0 where
-  pub next : r.next ≤ 2 ^ 29 + 1
-  pub dispatch : r.dispatch ≤ 2 ^ 29
-  pub retirement : r.retirement ≤ 2 ^ 29
+abbrev pub AreSmall : List ℕ → Type 0
+AreSmall ring = (k : ℕ) → get_or ring k 0 ≤ 2 ^ 29 + 1
 
 pub record IsSmallStore (r : StoreRow) : Type 0 where
   pub completion : r.completion ≤ 2 ^ 29
@@ -96,17 +92,21 @@ pub record IsSmallStore (r : StoreRow) : Type 0 where
 
 -- sizes and bounds of the parts, whatever they hold
 pub record IsFlight (w : Widths) (f : Flight) : Type 0 where
-  pub rows : length f.rows ≡ 256
+  pub fetches : length f.fetches ≡ 256
+  pub dispatches : length f.dispatches ≡ 256
+  pub retirements : length f.retirements ≡ 256
   pub accesses : length f.accesses ≡ 256
   pub stores : length f.stores ≡ 256
   pub registers : length f.registers ≡ 256
   pub power : IsPower (length f.slots.items)
   pub wide : span w ≤ length f.slots.items
   pub size : length f.slots.items ≤ 2 ^ 31
-  pub small_rows : (k : ℕ) → IsSmallRow (get_or f.rows k (row_of None))
-  pub small_accesses : (k : ℕ) → get_or f.accesses k 0 ≤ 2 ^ 29
+  pub small_fetches : AreSmall f.fetches
+  pub small_dispatches : AreSmall f.dispatches
+  pub small_retirements : AreSmall f.retirements
+  pub small_accesses : AreSmall f.accesses
   pub small_stores : (k : ℕ) → IsSmallStore (get_or f.stores k (store_row_of None))
-  pub small_registers : (k : ℕ) → get_or f.registers k 0 ≤ 2 ^ 29
+  pub small_registers : AreSmall f.registers
   pub counts : (f.count ≤ 110000) × (f.accessed ≤ f.count) × (f.stored ≤ f.count)
   pub next : f.next ≤ 2 ^ 29 + 64
   pub dispatched : f.dispatched ≤ 2 ^ 29
@@ -122,7 +122,9 @@ pub record IsKept (w : Widths) (earlier : List Timed) (f : Flight) : Type 0 wher
   pub count : f.count ≡ length earlier
   pub accessed : f.accessed ≡ length (memory_ones earlier)
   pub stored : f.stored ≡ length (store_ones earlier)
-  pub rows : IsRing row_of earlier f.rows
+  pub fetches : IsRing next_or earlier f.fetches
+  pub dispatches : IsRing dispatch_or earlier f.dispatches
+  pub retirements : IsRing retirement_or earlier f.retirements
   pub accesses : IsRing retirement_or (memory_ones earlier) f.accesses
   pub stores : IsRing store_row_of (store_ones earlier) f.stores
   pub next : f.next ≡ time_of (next_fetch w) (back earlier 1)
@@ -133,7 +135,9 @@ pub record IsKept (w : Widths) (earlier : List Timed) (f : Flight) : Type 0 wher
 
 -- no instruction has come
 pub record IsCleared (f : Flight) : Type 0 where
-  pub rows : f.rows ≡ replicate 256 (row_of None)
+  pub fetches : f.fetches ≡ replicate 256 0
+  pub dispatches : f.dispatches ≡ replicate 256 0
+  pub retirements : f.retirements ≡ replicate 256 0
   pub accesses : f.accesses ≡ replicate 256 0
   pub stores : f.stores ≡ replicate 256 (store_row_of None)
   pub registers : f.registers ≡ replicate 256 0
@@ -149,7 +153,9 @@ pub record IsNoted (w : Widths) (old new : Flight) (x : Timed) : Type 0 where
   pub count : new.count ≡ old.count + 1
   pub accessed : new.accessed ≡ (if accesses_memory x.mark.class then old.accessed + 1 else old.accessed)
   pub stored : new.stored ≡ (if is_store x.mark.class then old.stored + 1 else old.stored)
-  pub rows : new.rows ≡ slice_set old.rows (old.count % 256) (row_of (Some x))
+  pub fetches : new.fetches ≡ slice_set old.fetches (old.count % 256) (x.fetch + 1)
+  pub dispatches : new.dispatches ≡ slice_set old.dispatches (old.count % 256) x.dispatch
+  pub retirements : new.retirements ≡ slice_set old.retirements (old.count % 256) x.retirement
   pub accesses : new.accesses ≡
       (if accesses_memory x.mark.class then slice_set old.accesses (old.accessed % 256) x.retirement else old.accesses)
   pub stores : new.stores ≡

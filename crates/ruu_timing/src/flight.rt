@@ -5,9 +5,9 @@ ghost use Rattle.hierarchy.specs.Widths.{AreWidths};
 ghost use Rattle.hierarchy.specs.Marked.{IsMarked, accesses_memory};
 ghost use Rattle.ruu_timing.specs.Class.{is_ecall, is_store};
 ghost use Rattle.ruu_timing.specs.declared.timed.Timed.{Timed as TimedValue};
-ghost use Rattle.ruu_timing.specs.Flight.{IsCleared, IsFlight, IsKept, IsNoted, IsRegister, IsSmallRow, IsSmallStore, Falls, timed_with, row_of, store_row_of, row_back, written_in, written_by, late, completion_in};
+ghost use Rattle.ruu_timing.specs.Flight.{IsCleared, IsFlight, IsKept, IsNoted, IsRegister, AreSmall, IsSmallStore, Falls, timed_with, store_row_of, written_in, written_by, late, completion_in};
 ghost use Rattle.ruu_timing.specs.Issues.{has_room};
-ghost use Rattle.ruu_timing.specs.Ring.{IsRing, ring_place};
+ghost use Rattle.ruu_timing.specs.Ring.{IsRing, ring_place, time_back};
 ghost use Rattle.ruu_timing.specs.Laws.{IsFirst};
 ghost use Rattle.std.specs.List.{find};
 ghost use Rattle.ruu_timing.specs.Times.{back, time_of, is_given, next_fetch, fetch_of, dispatch_of, source_of, ready_of, retirement_of, timed_of, times};
@@ -30,15 +30,6 @@ pub(crate) struct Cycles {
     pub(crate) retirement: u32,
 }
 
-/// What later instructions wait for.
-#[derive(Clone, Copy, Debug)]
-pub(crate) struct Row {
-    /// The cycle after the fetch.
-    pub(crate) next: u32,
-    pub(crate) dispatch: u32,
-    pub(crate) retirement: u32,
-}
-
 /// What later loads wait for.
 #[derive(Clone, Copy, Debug)]
 pub(crate) struct StoreRow {
@@ -51,8 +42,10 @@ pub(crate) struct StoreRow {
 /// zeros where no instruction has come, which are the least of all times.
 #[derive(Debug, Drop)]
 pub(crate) struct Flight {
-    /// The latest instructions, by their number modulo the ring's size.
-    pub(crate) rows: [Row; 256],
+    /// The cycles after the fetches of the latest instructions, by their number modulo the ring's size.
+    pub(crate) fetches: [u32; 256],
+    pub(crate) dispatches: [u32; 256],
+    pub(crate) retirements: [u32; 256],
     /// The retirements of the latest loads and stores.
     pub(crate) accesses: [u32; 256],
     /// The latest stores.
@@ -73,17 +66,23 @@ pub(crate) struct Flight {
     pub(crate) start: u32,
 }
 
-const NO_ROW: Row = Row {
-    next: 0,
-    dispatch: 0,
-    retirement: 0,
-};
-
 const NO_STORE: StoreRow = StoreRow {
     word: None,
     completion: 0,
     retirement: 0,
 };
+
+/// The time of the `k`-th back of so many.
+fn time_back(ring: &[u32], count: u32, k: u32) -> u32
+    requires size { length ring.now ≡ 256 }
+    requires few { count ≤ 110000 }
+    requires back { k ≤ 256 }
+    requires small { AreSmall ring.now }
+    ensures value { result ≡ time_back ring.now count k }
+    ensures bound { result ≤ 2 ^ 29 + 1 }
+{
+    ring[((count + 256 - k) % 256) as usize]
+}
 
 /// When the last writer of a register completes.
 fn written(registers: &[u32], register: Option<u8>) -> u32
@@ -197,18 +196,6 @@ fn of_class(mark: &Marked, class: Class) -> Marked
 }
 
 impl Flight {
-    /// The `k`-th instruction back.
-    fn row(&self, k: u32) -> Row
-        requires size { length self.now.rows ≡ 256 }
-        requires few { self.now.count ≤ 110000 }
-        requires back { k ≤ 256 }
-        requires small { (k : ℕ) → IsSmallRow (get_or self.now.rows k (row_of None)) }
-        ensures value { result ≡ row_back self.now k }
-        ensures small { IsSmallRow result }
-    {
-        self.rows[((self.count + 256 - k) % 256) as usize]
-    }
-
     fn fetch_of(&self, w: &Widths, mark: &Marked) -> u32
         requires widths { AreWidths w.now }
         requires mark { IsMarked mark.now }
@@ -216,8 +203,8 @@ impl Flight {
         ensures value { (earlier : List TimedValue) → IsKept w.now earlier self.now → result ≡ fetch_of w.now earlier mark.now }
         ensures bound { result ≤ 2 ^ 29 + 1264 }
     {
-        let room = self.row(w.queue).dispatch;
-        let width = self.row(w.fetch).next;
+        let room = time_back(&self.dispatches, self.count, w.queue);
+        let width = time_back(&self.fetches, self.count, w.fetch);
         self.next.max(room.max(width)) + mark.stall
     }
 
@@ -226,11 +213,11 @@ impl Flight {
         requires widths { AreWidths w.now }
         requires flight { IsFlight w.now self.now }
         ensures value { result ≡ (if accesses_memory class
-            then get_or self.now.accesses (ring_place self.now.accessed w.now.lsq) 0 else 0) }
-        ensures bound { result ≤ 2 ^ 29 }
+            then time_back self.now.accesses self.now.accessed w.now.lsq else 0) }
+        ensures bound { result ≤ 2 ^ 29 + 1 }
     {
         if accesses_memory(class) {
-            self.accesses[((self.accessed + 256 - w.lsq) % 256) as usize]
+            time_back(&self.accesses, self.accessed, w.lsq)
         } else {
             0
         }
@@ -252,8 +239,8 @@ impl Flight {
         ensures value { (earlier : List TimedValue) → IsKept w.now earlier self.now → result ≡ dispatch_of w.now earlier mark.now fetch }
         ensures bound { result ≤ 2 ^ 29 + 1265 }
     {
-        let width = self.row(w.dispatch).dispatch + 1;
-        let unit = self.row(w.ruu).retirement;
+        let width = time_back(&self.dispatches, self.count, w.dispatch) + 1;
+        let unit = time_back(&self.retirements, self.count, w.ruu);
         let memory = self.access_retirement(w, mark.class);
         let call = self.call_retirement(mark.class);
         let in_order = (fetch + 1).max(self.dispatched.max(width));
@@ -299,7 +286,7 @@ impl Flight {
         ensures value { (earlier : List TimedValue) → IsKept w.now earlier self.now → result ≡ retirement_of w.now earlier completion }
         ensures bound { result ≤ 2 ^ 30 + 1 }
     {
-        let width = self.row(w.retire).retirement + 1;
+        let width = time_back(&self.retirements, self.count, w.retire) + 1;
         (completion + 1).max(self.retired.max(width))
     }
 
@@ -374,11 +361,10 @@ impl Flight {
         note_writer(&mut self.registers, mark.dest, cycles.completion);
         self.note_store(mark, cycles);
         self.note_access(mark, cycles);
-        self.rows[(self.count % 256) as usize] = Row {
-            next: cycles.fetch + 1,
-            dispatch: cycles.dispatch,
-            retirement: cycles.retirement,
-        };
+        let place = (self.count % 256) as usize;
+        self.fetches[place] = cycles.fetch + 1;
+        self.dispatches[place] = cycles.dispatch;
+        self.retirements[place] = cycles.retirement;
         self.count += 1;
         self.next = next_fetch(w, mark, cycles);
         self.dispatched = cycles.dispatch;
@@ -442,7 +428,9 @@ impl Flight {
         ensures slots { self.new.slots ≡ self.old.slots }
         ensures start { self.new.start ≡ self.old.start }
     {
-        self.rows = [NO_ROW; 256];
+        self.fetches = [0; 256];
+        self.dispatches = [0; 256];
+        self.retirements = [0; 256];
         self.accesses = [0; 256];
         self.stores = [NO_STORE; 256];
         self.registers = [0; 256];
@@ -471,7 +459,9 @@ impl Flight {
         ensures start { result.start ≡ 0 }
     {
         Flight {
-            rows: [NO_ROW; 256],
+            fetches: [0; 256],
+            dispatches: [0; 256],
+            retirements: [0; 256],
             accesses: [0; 256],
             stores: [NO_STORE; 256],
             registers: [0; 256],

@@ -40,15 +40,6 @@ fn place_of(slots: &[Slot], t: u32) -> usize
     (t & (slots.len() as u32 - 1)) as usize
 }
 
-/// Makes a place that of a cycle.
-fn claim(slot: &mut Slot, cycle: u32)
-    ensures { slot.new ≡ (if slot.old.cycle == cycle then slot.old else idle cycle) }
-{
-    if slot.cycle != cycle {
-        *slot = idle(cycle);
-    }
-}
-
 /// Counts one more instruction of a class.
 fn count(slot: &mut Slot, class: Class)
     requires issued { slot.old.issued < 8 }
@@ -57,6 +48,15 @@ fn count(slot: &mut Slot, class: Class)
 {
     slot.issued += 1;
     slot.alike[number_of(class)] += 1;
+}
+
+/// A cycle in which one instruction issues.
+fn first_of(cycle: u32, class: Class) -> Slot
+    ensures { result ≡ one_more class (idle cycle) }
+{
+    let mut slot = idle(cycle);
+    count(&mut slot, class);
+    slot
 }
 
 /// Whether one more instruction of a class can issue in a cycle.
@@ -87,8 +87,11 @@ pub(crate) fn issue_in(w: &Widths, slots: &mut [Slot], start: u32, class: Class,
 {
     let place = place_of(slots, t);
     let slot = &mut slots[place];
-    claim(slot, start + t);
-    count(slot, class);
+    if slot.cycle == start + t {
+        count(slot, class);
+    } else {
+        *slot = first_of(start + t, class);
+    }
 }
 
 /// The first cycle from `ready` on that has room for one more instruction of a class. `last` is the
@@ -110,7 +113,11 @@ pub(crate) fn first_room(
     ensures bound { result ≤ max ready (last + 1) }
 {
     let limit = limit_of(w, class);
-    let mut t = ready;
+    // Most find room at once.
+    if has_room(w, limit, slots, start, class, ready) {
+        return ready;
+    }
+    let mut t = ready + 1;
     'wait: while !has_room(w, limit, slots, start, class, t) {
         t += 1;
     }

@@ -9,8 +9,8 @@ returns-clause-value c = λ earlier kept.
       c.max-2.ensures,
       c.max-in_order.ensures,
       c.max.ensures,
-      c.row-width.ensures.value,
-      c.row-unit.ensures.value,
+      c.time_back-width.ensures.value,
+      c.time_back-unit.ensures.value,
       c.access_retirement-memory.ensures.value,
       c.call_retirement-call.ensures.value,
     )

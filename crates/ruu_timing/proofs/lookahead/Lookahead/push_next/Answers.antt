@@ -3,8 +3,12 @@ use Rattle.hierarchy.specs.declared.marked.Marked.{Marked}
 use Rattle.ruu_timing.specs.Lookahead.{timed_in}
 use Rattle.ruu_timing.specs.declared.timed.Timed.{Timed}
 use Rattle.ruu_timing.proofs.LookaheadLemmas.{ahead_more, short_in}
-use Rattle.ruu_timing.proofs.TimesLemmas.{times_more}
+use Rattle.ruu_timing.proofs.TimesLemmas.{marked_at, times_more}
 use Rattle.ruu_timing.proofs.lookahead.Lookahead.push_next.Goals as goal
+
+pub push-cycles-requires-clause-mark : goal.push-cycles-requires-clause-mark
+push-cycles-requires-clause-mark g c =
+    marked_at (g.T.Trace.items c.args.trace.now) c.args.self.now.flight.count c.at-mark.result c.at-mark.ensures c.requires.marks
 
 pub returns-clause-ahead : goal.returns-clause-ahead
 returns-clause-ahead g c =
