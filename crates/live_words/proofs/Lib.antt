@@ -4,4 +4,5 @@ pub mod MemoryLemmas
 pub mod LiveWordsLemmas
 pub mod CollectorLemmas
 pub mod PackedLemmas
+pub mod SlotsLemmas
 pub mod WindowsLemmas

@@ -5,6 +5,7 @@ pub mod CollectorView
 pub mod LiveWords
 pub mod Packed
 pub mod Partial
+pub mod Slots
 pub mod Windows
 pub mod WindowsView
 pub mod WindowsCode

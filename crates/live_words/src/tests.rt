@@ -106,6 +106,58 @@ fn holds_the_words_in_a_region(rt: HostRuntime) -> Result<(), Fail> {
     Ok(())
 }
 
+/// Words, and in how many slots they are put: from as many as they are to more than twice as many.
+const TABLES: [(&[(u32, u32)], usize); 8] = [
+    (&[], 0),
+    (&[], 1),
+    (&[(0, 5)], 1),
+    (&[(8, 5), (0xFFFF_FFFC, 0xFFFF_FFFF)], 2),
+    (&[(0, 5), (8, 6), (0xFFFF_FFFC, 7)], 3),
+    (&[(0, 5), (8, 6), (0xFFFF_FFFC, 7)], 7),
+    (&[(0, 1), (4, 2), (8, 3), (0xFFFF_FFFC, 0)], 4),
+    (&[(0, 1), (4, 2), (8, 3), (0xFFFF_FFFC, 0)], 8),
+];
+
+/// What a memory answers before stores, to them, and behind them.
+fn outcomes<M: Memory>(memory: &mut M) -> ([Option<u32>; 4], [bool; 4], [Option<u32>; 4])
+    requires { M.sound memory.old }
+    ensures { M.sound memory.new }
+{
+    let before = loaded(memory);
+    let stored = [
+        memory.store_word(0, 0xFFFF_FFFF),
+        memory.store_word(4, 10),
+        memory.store_word(7, 11),
+        memory.store_word(0xFFFF_FFFC, 0),
+    ];
+    (before, stored, loaded(memory))
+}
+
+/// A run over words that are hashed is that over words that are bisected.
+#[test]
+fn finds_words_by_hashing(rt: HostRuntime) -> Result<(), Fail> {
+    for (pairs, count) in TABLES {
+        let words = words_of(rt.alloc(), pairs)?;
+        let mut region = Region::new(rt.alloc(), words.len())?;
+        let partial = Partial::new(&mut region, &words).ok_or("no room")?;
+        let mut held = Held::over(region.view_mut(partial.span()));
+
+        let mut slots = Vec::new(rt.alloc());
+        slots.resize(count, 0)?;
+        if words.len() > count {
+            return Err("too few slots".into());
+        }
+        let mut hashed = Hashed::over(&words, slots.as_mut_slice());
+        let first = pairs.first().copied().unwrap_or((4, 0));
+        let found = hashed.load_word(first.0);
+        assert_eq!(rt; found.is_some(), !pairs.is_empty());
+        assert_eq!(rt; found.unwrap_or(0), first.1);
+        assert_eq!(rt; outcomes(&mut hashed), outcomes(&mut held), "{count} slots");
+        assert!(rt; hashed.covers(3, 0xFFFF_FFFF));
+    }
+    Ok(())
+}
+
 /// What happens to windows.
 enum Event {
     Start,
