@@ -13,3 +13,4 @@ pub mod EntriesLemmas
 pub mod SnapshotLemmas
 pub mod ImageLemmas
 pub mod DecodingLemmas
+pub mod EncodingLemmas

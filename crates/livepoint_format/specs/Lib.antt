@@ -11,3 +11,4 @@ pub mod Entries
 pub mod Image
 pub mod Rising
 pub mod LibraryView
+pub mod Encoding

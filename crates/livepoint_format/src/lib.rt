@@ -3,6 +3,7 @@
 
 mod cursor;
 mod decoding;
+mod encoding;
 mod entries;
 mod fault;
 mod header;
@@ -15,8 +16,10 @@ mod snapshot;
 #[cfg(test)]
 mod tests;
 mod words;
+mod writing;
 
 pub use decoding::{decode_header, decode_library, decode_point};
+pub use encoding::encode_header;
 pub use fault::LibraryFault;
 pub use laws::{growth_laws, spelling_laws, word_laws};
 pub use library::Library;
