@@ -14,3 +14,4 @@ pub mod SnapshotLemmas
 pub mod ImageLemmas
 pub mod DecodingLemmas
 pub mod EncodingLemmas
+pub mod SplittingLemmas

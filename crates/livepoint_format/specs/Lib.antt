@@ -12,3 +12,4 @@ pub mod Image
 pub mod Rising
 pub mod LibraryView
 pub mod Encoding
+pub mod Splitting

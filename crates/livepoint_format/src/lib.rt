@@ -11,15 +11,17 @@ mod image;
 mod laws;
 mod library;
 mod point;
+mod point_writing;
 mod shared;
 mod snapshot;
+mod splitting;
 #[cfg(test)]
 mod tests;
 mod words;
 mod writing;
 
 pub use decoding::{decode_header, decode_library, decode_point};
-pub use encoding::encode_header;
+pub use encoding::{encode_header, encode_library, encode_point};
 pub use fault::LibraryFault;
 pub use laws::{growth_laws, spelling_laws, word_laws};
 pub use library::Library;
