@@ -15,3 +15,4 @@ pub mod ImageLemmas
 pub mod DecodingLemmas
 pub mod EncodingLemmas
 pub mod SplittingLemmas
+pub mod LengthsLemmas

@@ -64,7 +64,7 @@ take_next [] i d h = absurd (omega arith)
 take_next (x ∷ xs) zero d h = refl
 take_next (x ∷ xs) (suc i) d h = ap (λ (l : List _). x ∷ l) (take_next xs i d (omega arith))
 
-take_one : {A : Type 0} (xs : List A) (i : ℕ) (d : A) → i < length xs → take (i + 1) xs ≡ take i xs ++ get_or xs i d ∷ []
+pub take_one : {A : Type 0} (xs : List A) (i : ℕ) (d : A) → i < length xs → take (i + 1) xs ≡ take i xs ++ get_or xs i d ∷ []
 take_one xs i d h = rw add-one (take_next xs i d h)
 
 filter_push : (test : ℕ × ℕ → Bool) (ws : List (ℕ × ℕ)) (w : ℕ × ℕ) → filter test (ws ++ w ∷ []) ≡ filter test ws ++ cond (test w) (w ∷ []) []

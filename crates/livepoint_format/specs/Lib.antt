@@ -13,3 +13,4 @@ pub mod Rising
 pub mod LibraryView
 pub mod Encoding
 pub mod Splitting
+pub mod Lengths
