@@ -160,14 +160,16 @@ point_long first shared p =
       length-append (snapshots p.places) (flat_map image p.images),
     )
 
+pub header_long : (h : Head) (shared : List (ℕ × ℕ)) → length (header h shared) ≡ length (head h) + length (table (is_first h) shared)
+unfolding header
+header_long h shared = length-append (head h) (table (is_first h) shared)
+
 pub spelling_long : (l : Whole)
-    → length (spelling l)
-    ≡ length (head l.head) + (length (table (is_first l.head) l.shared) + (length (flat_map (point (is_first l.head) l.shared) l.points) + 4))
-unfolding spelling header word
+    → length (spelling l) ≡ length (header l.head l.shared) + (length (flat_map (point (is_first l.head) l.shared) l.points) + 4)
+unfolding spelling word
 spelling_long l =
     omega (
       arith,
-      length-append (head l.head ++ table (is_first l.head) l.shared) (flat_map (point (is_first l.head) l.shared) l.points ++ word end_word),
-      length-append (head l.head) (table (is_first l.head) l.shared),
+      length-append (header l.head l.shared) (flat_map (point (is_first l.head) l.shared) l.points ++ word end_word),
       length-append (flat_map (point (is_first l.head) l.shared) l.points) (word end_word),
     )

@@ -1,8 +1,10 @@
-ghost use Rattle.std.specs.Prelude.{◌≡◌, ◌++◌, flat_map, IfOk, OnOk};
+ghost use Rattle.std.specs.Prelude.{◌≡◌, ◌≤◌, ◌++◌, Ok, length, flat_map, IfOk, OnOk};
+ghost use Rattle.livepoint_format.specs.Decoding.{library_of};
 ghost use Rattle.livepoint_format.specs.Format.{header as header_text, point as point_text, is_first, spelling};
 ghost use Rattle.livepoint_format.specs.Encoding.{Cut};
 ghost use Rattle.livepoint_format.specs.Views.{head_of};
 
+use crate::lengths::{encoded_len, header_len, point_len};
 use crate::library::Library;
 use crate::point_writing::put_point;
 use crate::shared::Shared;
@@ -26,7 +28,8 @@ pub fn encode_header(
     ensures ok { OnOk result (out.new.items ≡ out.old.items ++ header_text (head_of header.now) shared.now) }
     ensures front { Cut out.old.items out.new.items (header_text (head_of header.now) shared.now) }
 {
-    let mut text = Vec::new(alloc);
+    let len = header_len(header, shared);
+    let mut text = Vec::with_capacity(alloc, len as usize)?;
     put_header(&mut text, header, shared)?;
     out.extend_from_slice(text.as_slice())?;
     Ok(())
@@ -45,8 +48,9 @@ pub fn encode_point(
     ensures ok { OnOk result (out.new.items ≡ out.old.items ++ point_text (is_first (head_of header.now)) shared.now point.now) }
     ensures front { Cut out.old.items out.new.items (point_text (is_first (head_of header.now)) shared.now point.now) }
 {
-    let mut text = Vec::new(alloc);
-    put_point(alloc, &mut text, header.version == 1, shared, point)?;
+    let first = header.version == 1;
+    let mut text = Vec::with_capacity(alloc, point_len(first, shared, point) as usize)?;
+    put_point(alloc, &mut text, first, shared, point)?;
     out.extend_from_slice(text.as_slice())?;
     Ok(())
 }
@@ -69,13 +73,25 @@ fn put_points(
 
 /// The bytes of a library.
 #[tactic(auto, unfolding(crate::specs::Format::spelling))]
-pub fn encode_library(alloc: Global, library: &Library) -> Result<Vec<u8>, NoMemory>
+fn bytes_of(alloc: Global, library: &Library) -> Result<Vec<u8>, NoMemory>
     ensures { IfOk result (λ bytes. bytes.items ≡ spelling library.now) }
 {
-    let mut bytes = Vec::new(alloc);
+    let mut bytes = Vec::with_capacity(alloc, encoded_len(library) as usize)?;
     let header = library.header();
     put_header(&mut bytes, header, library.shared())?;
     put_points(alloc, &mut bytes, header.version == 1, library.shared(), library.points())?;
     put_word(&mut bytes, END)?;
     Ok(bytes)
+}
+
+/// The bytes of a library. Those of one that is longer than a library may be are written too, but aren't read.
+#[tactic(auto, using(crate::proofs::EncodingLemmas::read_of_bytes))]
+pub fn encode_library(alloc: Global, library: &Library) -> Result<Vec<u8>, NoMemory>
+    ensures bytes { IfOk result (λ bytes. bytes.items ≡ spelling library.now) }
+
+    // They are read as what they were written from.
+    ensures read { IfOk result (λ bytes. length bytes.items ≤ 1073741824 → library_of bytes.items ≡ Ok library.now) }
+{
+    let _header = library.header();
+    bytes_of(alloc, library)
 }

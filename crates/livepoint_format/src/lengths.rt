@@ -3,7 +3,7 @@ ghost use Rattle.live_words.specs.Follow.{Follow};
 ghost use Rattle.live_words.specs.Words.{IsPair};
 ghost use Rattle.live_points.specs.Sharing.{ranks};
 ghost use Rattle.livepoint_format.specs.Shared.{parts_of};
-ghost use Rattle.livepoint_format.specs.Format.{head as head_text, table, words_text, set as set_text, snapshot as snapshot_text, snapshots as snapshots_text, image as image_text, point as point_text, spelling};
+ghost use Rattle.livepoint_format.specs.Format.{head as head_text, header as header_text, table, words_text, set as set_text, snapshot as snapshot_text, snapshots as snapshots_text, image as image_text, point as point_text, spelling};
 ghost use Rattle.livepoint_format.specs.Views.{head_of};
 
 use crate::library::Library;
@@ -33,6 +33,15 @@ fn table_len(first: bool, shared: &Shared) -> u64
     } else {
         4 + 8 * u64::from(shared.len())
     }
+}
+
+/// How many bytes a header has with the table behind it.
+#[tactic(auto, using(crate::proofs::LengthsLemmas::header_long))]
+pub fn header_len(header: &Header, shared: &Shared) -> u64
+    ensures value { result ≡ length (header_text (head_of header.now) shared.now) }
+    ensures few { result ≤ 2 ^ 37 }
+{
+    head_len(header) + table_len(header.version == 1, shared)
 }
 
 /// How many runs begin at a place, where `end` is one above the place that would join the last run.
@@ -153,7 +162,7 @@ fn registers_len(regs: &[u32; 32]) -> u64
     4 * spelled.len() as u64
 }
 
-fn point_len(first: bool, shared: &Shared, point: &LivePoint) -> u64
+pub fn point_len(first: bool, shared: &Shared, point: &LivePoint) -> u64
     ensures value { result ≡ length (point_text first shared.now point.now) }
     ensures few { result ≤ 2 ^ 35 }
 {
@@ -182,8 +191,7 @@ pub fn encoded_len(library: &Library) -> u64
 {
     let header = library.header();
     let first = header.version == 1;
-    head_len(header)
-        + table_len(first, library.shared())
+    header_len(header, library.shared())
         + points_len(first, library.shared(), library.points())
         + 4
 }
