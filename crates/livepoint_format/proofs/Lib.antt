@@ -13,3 +13,6 @@ pub mod EntriesLemmas
 pub mod SnapshotLemmas
 pub mod ImageLemmas
 pub mod DecodingLemmas
+pub mod EncodingLemmas
+pub mod SplittingLemmas
+pub mod LengthsLemmas

@@ -42,7 +42,7 @@ whole_spells = finished
 
 -- ---- the table
 
-pairs_long : (ps : List (ℕ × ℕ)) → length (flat_map pair ps) ≡ 8 * length ps
+pub pairs_long : (ps : List (ℕ × ℕ)) → length (flat_map pair ps) ≡ 8 * length ps
 unfolding pair word
 pairs_long [] = refl
 pairs_long (p ∷ ps) = omega (arith, pairs_long ps)
@@ -134,7 +134,7 @@ read_whole l i =
     ap (λ (text : List ℕ). whole_at (starts_at 0 text)) (sym (append-nil (spelling l)))
     ∙ whole_spells.again l 0 [] (readable l i)
 
-read_again : (l : Whole) → IsLibrary l → library_of (spelling l) ≡ Ok l
+pub read_again : (l : Whole) → IsLibrary l → library_of (spelling l) ≡ Ok l
 unfolding library_of
 read_again l i = rw (le-ltb 1073741824 (length (spelling l)) i.short, read_whole l i) refl
 

@@ -50,3 +50,8 @@ pub record WordsGoBack : Type 0 where
       → parts_of shared (words_of shared p) ≡ p
   pub found : (most : ℕ) (shared : List (ℕ × ℕ)) (p : Parts) → Follow (IsPair ranks) [] shared → AreParts most shared p
       → are_apart (words_of shared p) ≡ true → AreWords (words_of shared p)
+
+-- a library's bytes are read as it, and the library that bytes are read as has them for its spelling
+pub record BytesGoBack : Type 0 where
+  pub library : (l : Whole) → IsLibrary l → library_of (spelling l) ≡ Ok l
+  pub bytes : (bytes : List ℕ) (l : Whole) → AreBytes bytes → library_of bytes ≡ Ok l → spelling l ≡ bytes

@@ -11,3 +11,6 @@ pub mod Entries
 pub mod Image
 pub mod Rising
 pub mod LibraryView
+pub mod Encoding
+pub mod Splitting
+pub mod Lengths

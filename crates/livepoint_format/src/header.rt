@@ -20,7 +20,7 @@ use smarts_base::Refusal;
 use std::alloc::Global;
 
 /// The letters TSLP.
-const MAGIC: u32 = 0x504C_5354;
+pub(crate) const MAGIC: u32 = 0x504C_5354;
 
 /// The most pairs that a table may have.
 const MOST_SHARED: u32 = 134_217_728;

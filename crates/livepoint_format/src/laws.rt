@@ -1,4 +1,4 @@
-ghost use Rattle.livepoint_format.specs.Laws.{ReadsSpellings, SpellsOne, FrontsAreTruncated, PartsStay, WordsGoBack};
+ghost use Rattle.livepoint_format.specs.Laws.{ReadsSpellings, SpellsOne, FrontsAreTruncated, PartsStay, WordsGoBack, BytesGoBack};
 
 /// The bytes of a library are its spelling, and the only one.
 pub fn spelling_laws()
@@ -15,4 +15,9 @@ pub fn growth_laws()
 /// The words of a point, beside the table, go back and forth between their two forms.
 pub fn word_laws()
     ensures { WordsGoBack }
+{}
+
+/// What is written is read as what it was, and what was read is written as it was.
+pub fn writing_laws()
+    ensures { BytesGoBack }
 {}

@@ -3,21 +3,28 @@
 
 mod cursor;
 mod decoding;
+mod encoding;
 mod entries;
 mod fault;
 mod header;
 mod image;
 mod laws;
+mod lengths;
 mod library;
 mod point;
+mod point_writing;
 mod shared;
 mod snapshot;
+mod splitting;
 #[cfg(test)]
 mod tests;
 mod words;
+mod writing;
 
 pub use decoding::{decode_header, decode_library, decode_point};
+pub use encoding::{encode_header, encode_library, encode_point};
 pub use fault::LibraryFault;
-pub use laws::{growth_laws, spelling_laws, word_laws};
+pub use laws::{growth_laws, spelling_laws, word_laws, writing_laws};
+pub use lengths::encoded_len;
 pub use library::Library;
 pub use shared::Shared;

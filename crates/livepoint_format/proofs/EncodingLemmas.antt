@@ -1,0 +1,20 @@
+-- Fronts of a text behind what a buffer held.
+use Rattle.std.proofs.Common.{◌≡◌, ℕ, zero, suc, ◌<◌, ◌≤◌, Ok, List, [], ◌∷◌, ◌++◌, length, take, get_or, refl, sym, ap, ◌∙◌, append-nil, arith}
+use Rattle.std.specs.Prelude.{flat_map}
+use Rattle.std.proofs.lemmas.List.{take_all}
+use Rattle.livepoint_format.specs.Values.{Whole}
+use Rattle.livepoint_format.specs.Format.{spelling, IsWhole}
+use Rattle.livepoint_format.specs.Decoding.{library_of}
+use Rattle.livepoint_format.specs.Encoding.{Cut}
+use Rattle.livepoint_format.proofs.LibraryLaws.{read_again}
+
+pub cut_none : (old new text : List ℕ) → new ≡ old → Cut old new text
+cut_none old new text same = record { count = 0; is = same ∙ sym (append-nil old) }
+
+pub cut_all : (old new text : List ℕ) → new ≡ old ++ text → Cut old new text
+cut_all old new text same = record { count = length text; is = same ∙ ap (λ (l : List ℕ). old ++ l) (sym (take_all (length text) text (omega arith))) }
+
+-- the bytes of a library that isn't too long are read as it
+pub read_of_bytes : (bytes : List ℕ) (l : Whole) → IsWhole l → bytes ≡ spelling l → length bytes ≤ 1073741824 → library_of bytes ≡ Ok l
+read_of_bytes bytes l whole same short =
+    ap library_of same ∙ read_again l (record { whole = whole; short = rw same at short })
