@@ -1,3 +1,5 @@
+mod passes;
+
 use super::*;
 use hierarchy::Places;
 use live_words::Words;
@@ -61,17 +63,18 @@ fn is_shared<T: Sync>(_: &T) -> bool {
     true
 }
 
-fn geometry(line_log: u8) -> Result<Geometry, Fail> {
-    Ok(Geometry::new(line_log, 0, 1).ok_or("no such geometry")?)
+fn geometry(line_log: u8, sets_log: u8, ways: u8) -> Result<Geometry, Fail> {
+    Ok(Geometry::new(line_log, sets_log, ways).ok_or("no such geometry")?)
 }
 
+/// Two lines of 16 bytes to each set, of which the second cache has two, and two pages.
 fn shapes() -> Result<Places<Geometry>, Fail> {
     Ok(Places {
-        l1i: geometry(4)?,
-        l1d: geometry(4)?,
-        l2: geometry(4)?,
-        itlb: geometry(12)?,
-        dtlb: geometry(12)?,
+        l1i: geometry(4, 0, 2)?,
+        l1d: geometry(4, 0, 2)?,
+        l2: geometry(4, 1, 2)?,
+        itlb: geometry(12, 0, 2)?,
+        dtlb: geometry(12, 0, 2)?,
     })
 }
 

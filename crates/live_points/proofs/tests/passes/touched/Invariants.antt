@@ -1,0 +1,6 @@
+use Rattle.live_points.proofs.tests.passes.touched.Given as goal
+
+abbrev pub invariant-loop : goal.invariant-loop
+invariant-loop g l = record {
+  sound : g.M.Memory.sound l.memory;
+}
