@@ -141,8 +141,7 @@ image_long t =
 pub image_small : (t : Tables) → IsImage t → (length t.counters ≤ 16384) × ((length t.targets ≤ 1024) × (length t.stack ≤ 16))
 image_small t is =
     let counters : 2 ^ t.kind.bits ≤ 2 ^ 14 = pow-le-pow_right {n = 2} (omega arith) is.tables.kind.most_bits in
-    let targets : 2 ^ t.kind.target_log ≤ 2 ^ 10 = pow-le-pow_right {n = 2} (omega arith) is.tables.kind.most_target_log in
-    (
+    let targets : 2 ^ t.kind.target_log ≤ 2 ^ 10 = pow-le-pow_right {n = 2} (omega arith) is.tables.kind.most_target_log in (
       omega (arith, is.tables.counters, counters),
       (omega (arith, is.tables.targets, targets), omega (arith, is.tables.stack, is.tables.kind.most_depth)),
     )

@@ -79,7 +79,13 @@ fn bytes_of(alloc: Global, library: &Library) -> Result<Vec<u8>, NoMemory>
     let mut bytes = Vec::with_capacity(alloc, encoded_len(library) as usize)?;
     let header = library.header();
     put_header(&mut bytes, header, library.shared())?;
-    put_points(alloc, &mut bytes, header.version == 1, library.shared(), library.points())?;
+    put_points(
+        alloc,
+        &mut bytes,
+        header.version == 1,
+        library.shared(),
+        library.points(),
+    )?;
     put_word(&mut bytes, END)?;
     Ok(bytes)
 }

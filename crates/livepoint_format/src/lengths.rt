@@ -191,7 +191,5 @@ pub fn encoded_len(library: &Library) -> u64
 {
     let header = library.header();
     let first = header.version == 1;
-    header_len(header, library.shared())
-        + points_len(first, library.shared(), library.points())
-        + 4
+    header_len(header, library.shared()) + points_len(first, library.shared(), library.points()) + 4
 }

@@ -12,7 +12,11 @@ use std::alloc::Global;
 
 /// Puts a place behind runs and the run under way, and answers the run that is under way then.
 #[tactic(auto, using(crate::proofs::SplittingLemmas::extended_behind, crate::proofs::SplittingLemmas::extended_apart))]
-fn add_place(runs: &mut Vec<(u32, u32)>, last: (u32, u32), place: u32) -> Result<(u32, u32), NoMemory>
+fn add_place(
+    runs: &mut Vec<(u32, u32)>,
+    last: (u32, u32),
+    place: u32,
+) -> Result<(u32, u32), NoMemory>
     requires few { last.1 < 2 ^ 31 }
     requires first { last.1 ≡ 0 → runs.old.items ≡ [] }
     ensures runs { IfOk result (λ next. runs.new.items ++ open_run next ≡ extended (runs.old.items ++ open_run last) place) }
