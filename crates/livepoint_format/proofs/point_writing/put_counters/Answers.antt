@@ -1,4 +1,4 @@
-use Rattle.std.proofs.Common.{◌≡◌, ◌++◌, List, ℕ, sym, ap, ◌∙◌}
+use Rattle.std.proofs.Common.{◌++◌, List, ℕ, sym, ap, ◌∙◌}
 use Rattle.livepoint_format.proofs.EncodingLemmas.{bytes_are}
 use Rattle.livepoint_format.proofs.point_writing.put_counters.Goals as goal
 
