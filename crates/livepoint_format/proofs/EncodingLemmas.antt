@@ -1,9 +1,9 @@
 -- Fronts of a text behind what a buffer held.
-use Rattle.std.proofs.Common.{◌≡◌, ℕ, zero, suc, ◌<◌, ◌≤◌, Ok, List, [], ◌∷◌, ◌++◌, length, take, get_or, refl, sym, ap, ◌∙◌, append-nil, arith}
+use Rattle.std.proofs.Common.{◌≡◌, ℕ, suc, ◌%◌, ◌<◌, ◌≤◌, Ok, List, [], ◌∷◌, ◌++◌, length, get_or, refl, sym, ap, ◌∙◌, append-nil, arith}
 use Rattle.std.specs.Prelude.{flat_map}
 use Rattle.std.proofs.lemmas.List.{take_all}
 use Rattle.livepoint_format.specs.Values.{Whole}
-use Rattle.livepoint_format.specs.Format.{spelling, IsWhole}
+use Rattle.livepoint_format.specs.Format.{byte, spelling, IsWhole}
 use Rattle.livepoint_format.specs.Decoding.{library_of}
 use Rattle.livepoint_format.specs.Encoding.{Cut}
 use Rattle.livepoint_format.proofs.LibraryLaws.{read_again}
@@ -18,3 +18,11 @@ cut_all old new text same = record { count = length text; is = same ∙ ap (λ (
 pub read_of_bytes : (bytes : List ℕ) (l : Whole) → IsWhole l → bytes ≡ spelling l → length bytes ≤ 1073741824 → library_of bytes ≡ Ok l
 read_of_bytes bytes l whole same short =
     ap library_of same ∙ read_again l (record { whole = whole; short = rw same at short })
+
+-- numbers below 256 are spelled by themselves
+pub bytes_are : (ns : List ℕ) → ((i : ℕ) → get_or ns i 0 < 256) → flat_map byte ns ≡ ns
+unfolding byte
+bytes_are [] each = refl
+bytes_are (n ∷ ns) each =
+    let same : n % 256 ≡ n = omega (arith, each 0) in
+    rw same (ap (λ (l : List ℕ). n ∷ l) (bytes_are ns (λ i. each (suc i))))

@@ -1,6 +1,6 @@
 -- How long spellings are.
-use Rattle.std.proofs.Common.{◌≡◌, ℕ, zero, suc, ◌+◌, ◌*◌, ◌^◌, ◌<◌, ◌≤◌, Bool, true, false, cond, eqb, Option, Some, None, is_none, List, [], ◌∷◌, ◌++◌, length, take, drop, filter, get_or, refl, sym, ap, ◌∙◌, arith, append-nil, inl, inr, eq-eqb, length-append}
-use Rattle.std.specs.Prelude.{flat_map, filter_map}
+use Rattle.std.proofs.Common.{◌≡◌, ℕ, suc, ◌+◌, ◌*◌, ◌^◌, ◌<◌, ◌≤◌, Bool, true, false, cond, eqb, List, [], ◌∷◌, ◌++◌, length, take, drop, get_or, refl, ap, ◌∙◌, arith, append-nil, inl, inr, eq-eqb, length-append}
+use Rattle.std.specs.Prelude.{flat_map}
 use Rattle.std.proofs.lemmas.Bool.{cases_eq, ne_eqb}
 use Rattle.std.proofs.lemmas.Grind.{flat_map-append}
 use Rattle.std.proofs.lemmas.List.{take_all}
@@ -12,12 +12,12 @@ use Rattle.recency_record.specs.declared.entry.Entry.{Entry}
 use Rattle.recency_record.specs.Recency.{Recency}
 use Rattle.predictor.specs.declared.kind.PredictorKind.{PredictorKind}
 use Rattle.livepoint_format.specs.Values.{Head, Point, Whole}
-use Rattle.livepoint_format.specs.Shared.{place_in, runs_of, parts_of}
+use Rattle.livepoint_format.specs.Shared.{parts_of}
 use Rattle.livepoint_format.specs.Splitting.{extended}
 use Rattle.livepoint_format.specs.Lengths.{end_of}
 use Rattle.livepoint_format.specs.Format.{byte, word, long, pair, geometry, geometries, kind, kinds_text, head, table, header, is_first, end_word, parts_text, words_text, entry, set, snapshot, snapshots, image, point, spelling}
 use Rattle.livepoint_format.proofs.LibraryLaws.{pairs_long}
-use Rattle.livepoint_format.proofs.SplittingLemmas.{take_one, own_more, own_stay, runs_stay, run_more}
+use Rattle.livepoint_format.proofs.SplittingLemmas.{take_one}
 
 -- ---- runs that are counted
 

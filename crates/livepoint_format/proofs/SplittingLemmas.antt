@@ -1,5 +1,5 @@
 -- Words that are split one by one into own pairs and runs.
-use Rattle.std.proofs.Common.{◌≡◌, ℕ, zero, suc, ◌+◌, ◌^◌, ◌<◌, ◌≤◌, Bool, true, false, cond, eqb, Option, Some, None, is_none, List, [], ◌∷◌, ◌++◌, length, take, filter, get_or, refl, sym, ap, ◌∙◌, arith, add-one, append-nil, append_assoc, inl, inr, eq-eqb, eqb-true}
+use Rattle.std.proofs.Common.{◌≡◌, ℕ, zero, suc, ◌+◌, ◌^◌, ◌<◌, ◌≤◌, Bool, cond, eqb, Option, Some, None, is_none, List, [], ◌∷◌, ◌++◌, length, take, filter, get_or, refl, sym, ap, ◌∙◌, arith, add-one, append-nil, inl, inr, eq-eqb}
 use Rattle.std.specs.Prelude.{filter_map}
 use Rattle.std.specs.List.{cons_option}
 use Rattle.std.proofs.lemmas.Bool.{cases_eq, cases_Bool, ne_eqb}
@@ -9,7 +9,7 @@ use Rattle.live_points.specs.Sharing.{ranks}
 use Rattle.livepoint_format.specs.Shared.{Parts, place_in, joined, runs_of, parts_of}
 use Rattle.livepoint_format.specs.Format.{AreParts}
 use Rattle.livepoint_format.proofs.Parts.{parts_are}
-use Rattle.livepoint_format.specs.Splitting.{open_run, extended}
+use Rattle.livepoint_format.specs.Splitting.{extended}
 
 joined_extended : (q p : ℕ) (runs : List (ℕ × ℕ)) → joined q (extended runs p) ≡ extended (joined q runs) p
 joined_extended q p [] =

@@ -13,6 +13,8 @@ mod lengths;
 mod library;
 mod point;
 mod point_writing;
+#[cfg(test)]
+mod round_trips;
 mod shared;
 mod snapshot;
 mod splitting;

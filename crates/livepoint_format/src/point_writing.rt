@@ -118,9 +118,7 @@ fn put_snapshots(out: &mut Vec<u8>, places: &Places<Snapshot>) -> Result<(), NoM
 fn put_counters(out: &mut Vec<u8>, counters: &[u8]) -> Result<(), NoMemory>
     ensures { OnOk result (out.new.items ≡ out.old.items ++ flat_map byte counters.now) }
 {
-    for i in 0..counters.len() {
-        put_byte(out, counters[i])?;
-    }
+    out.extend_from_slice(counters)?;
     Ok(())
 }
 

@@ -1,4 +1,4 @@
-use Rattle.std.proofs.Common.{◌≡◌, ◌≤◌, ◌*◌, ◌^◌, length, take}
+use Rattle.std.proofs.Common.{◌≡◌, ◌≤◌, ◌*◌, length, take}
 use Rattle.std.specs.Prelude.{flat_map}
 use Rattle.livepoint_format.specs.Format.{image}
 use Rattle.livepoint_format.proofs.lengths.images_len.Given as goal

@@ -1,5 +1,4 @@
-use Rattle.std.proofs.Common.{◌≡◌, ◌^◌, ◌<◌, ◌≤◌, ℕ, length, arith, ap, ◌∙◌, List}
-use Rattle.livepoint_format.specs.Shared.{Parts, parts_of}
+use Rattle.std.proofs.Common.{length, arith, ap}
 use Rattle.livepoint_format.specs.Views.{parts_view}
 use Rattle.livepoint_format.proofs.SplittingLemmas.{few_parts}
 use Rattle.livepoint_format.proofs.point_writing.put_memory.Goals as goal

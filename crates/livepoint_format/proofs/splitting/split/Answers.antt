@@ -1,4 +1,4 @@
-use Rattle.std.proofs.Common.{◌≡◌, ◌<◌, Some, None, sym, ap, ◌∙◌, arith, get_or, length, ℕ, List, ◌++◌}
+use Rattle.std.proofs.Common.{◌≡◌, Some, None, sym, ap, ◌∙◌, arith, get_or, ℕ, List, ◌++◌}
 use Rattle.livepoint_format.specs.Splitting.{open_run, extended}
 use Rattle.livepoint_format.specs.Shared.{place_in}
 use Rattle.livepoint_format.proofs.Places.{place_of}
