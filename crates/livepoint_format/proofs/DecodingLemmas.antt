@@ -25,7 +25,7 @@ use Rattle.livepoint_format.specs.Decoding.{header_at, point_at, point_after, li
 use Rattle.livepoint_format.proofs.HeaderLaws.{IsFront, header_spells, points_few}
 use Rattle.livepoint_format.proofs.PointLaws.{point_spells}
 
-usable : (h : Head) → IsHeader h → IsUsable (design_of h)
+pub usable : (h : Head) → IsHeader h → IsUsable (design_of h)
 usable h is = record {
   ranges = record {
     unit_least = is.unit.0;

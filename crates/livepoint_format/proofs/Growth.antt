@@ -12,7 +12,7 @@ use Rattle.livepoint_format.specs.Reading.{Spot, Reader, done, onward, ◌>>=◌
 use Rattle.livepoint_format.specs.Growing.{longer, Stays, Grows}
 use Rattle.livepoint_format.specs.Values.{Head}
 use Rattle.livepoint_format.specs.Format.{is_first}
-use Rattle.livepoint_format.specs.Decoding.{bad_field, field, pair_at, geometry_at, geometries_at, kind_read, kinds_count, head_at, table_at, header_at, parts_at, merged_at, words_at, entry_after, set_at, set_after, snapshot_at, snapshots_at, target_after, image_at, point_at, whole_at}
+use Rattle.livepoint_format.specs.Decoding.{bad_field, field, pair_at, geometry_at, geometries_at, kind_read, kinds_count, head_at, table_at, header_at, parts_at, merged_at, words_at, entry_after, set_at, set_after, snapshot_at, snapshots_at, target_after, image_at, point_at, end_at, whole_at}
 
 -- more bytes don't mend it
 abbrev is_final : LibraryFault → Bool
@@ -277,10 +277,13 @@ point_grows h shared number wanted =
     grows_then (grows_items (λ before. grows_image _) (length h.kinds) []) λ images.
     grows_done _
 
+pub end_grows : Grows end_at
+end_grows = grows_field w32 _
+
 pub whole_grows : Grows whole_at
 unfolding whole_at
 whole_grows =
     grows_then header_grows λ front.
     grows_then (grows_items (λ before. point_grows front.0 front.1 _ _) front.0.points []) λ points.
-    grows_then (grows_field w32 _) λ end.
+    grows_then end_grows λ end.
     grows_done _

@@ -16,3 +16,6 @@ pub mod DecodingLemmas
 pub mod EncodingLemmas
 pub mod SplittingLemmas
 pub mod LengthsLemmas
+pub mod MigratingLemmas
+pub mod CountingLemmas
+pub mod PairsLemmas

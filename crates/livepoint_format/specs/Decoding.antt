@@ -262,11 +262,14 @@ point_at h shared point wanted = do
 abbrev pub point_after : Head → List (ℕ × ℕ) → List Point → Reader Point
 point_after h shared before = point_at h shared (length before) (unit_of h (length before))
 
+abbrev pub end_at : Reader ℕ
+end_at = field w32 (λ n. n == end_word)
+
 unfoldable pub whole_at : Reader Whole
 whole_at = do
   front ← header_at
   points ← items (point_after front.0 front.1) front.0.points []
-  _ ← field w32 (λ n. n == end_word)
+  _ ← end_at
   done (record { head = front.0; shared = front.1; points = points })
 
 -- nothing stands behind the end

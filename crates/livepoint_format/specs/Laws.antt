@@ -10,7 +10,7 @@ use Rattle.livepoint_format.specs.Values.{Head, Whole}
 use Rattle.livepoint_format.specs.Shared.{Parts, parts_of, words_of, are_apart}
 use Rattle.livepoint_format.specs.Format.{spelling, AreParts, IsLibrary}
 use Rattle.live_points.specs.Sharing.{ranks}
-use Rattle.livepoint_format.specs.Decoding.{header_at, point_at, library_of}
+use Rattle.livepoint_format.specs.Decoding.{header_at, point_at, end_at, library_of}
 use Rattle.livepoint_format.specs.Growing.{Grows}
 
 abbrev pub AreBytes : List ℕ → Type 0
@@ -37,10 +37,11 @@ FrontsAreTruncated =
     (l : Whole) (n : ℕ) → IsLibrary l → n < length (spelling l)
     → library_of (take n (spelling l)) ≡ Err (faults.Truncated n)
 
--- a header and a point stay, and their faults, whatever comes behind
+-- a header, a point and the end stay, and their faults, whatever comes behind
 pub record PartsStay : Type 0 where
   pub header : Grows header_at
   pub point : (h : Head) (shared : List (ℕ × ℕ)) (number wanted : ℕ) → Grows (point_at h shared number wanted)
+  pub end : Grows end_at
 
 -- words become own pairs and runs, and these become the words
 pub record WordsGoBack : Type 0 where

@@ -14,3 +14,6 @@ pub mod LibraryView
 pub mod Encoding
 pub mod Splitting
 pub mod Lengths
+pub mod Pairs
+pub mod Told
+pub mod Migrating

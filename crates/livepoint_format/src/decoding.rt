@@ -3,8 +3,8 @@ ghost use Rattle.std.specs.Int.{w32};
 ghost use Rattle.smarts_base.specs.Outcome.{Answers};
 ghost use Rattle.sample_design.specs.Order.{order_of};
 ghost use Rattle.livepoint_format.specs.Reading.{items, handed_out, starts_at};
-ghost use Rattle.livepoint_format.specs.Format.{IsHeader, IsLibrary, AreShared, is_first, end_word, spelling, unit_of};
-ghost use Rattle.livepoint_format.specs.Decoding.{field, header_at, point_at, point_after, whole_at, library_of};
+ghost use Rattle.livepoint_format.specs.Format.{IsHeader, IsLibrary, AreShared, is_first, spelling, unit_of};
+ghost use Rattle.livepoint_format.specs.Decoding.{header_at, point_at, end_at, point_after, whole_at, library_of};
 ghost use Rattle.livepoint_format.specs.Reads.{Reads};
 ghost use Rattle.livepoint_format.specs.Laws.{IsNoLibrary};
 ghost use Rattle.livepoint_format.specs.Views.{head_of};
@@ -59,7 +59,7 @@ pub fn decode_point(
 }
 
 fn end(cursor: &mut Cursor) -> Answer<u32>
-    ensures { Reads (λ n. n) result cursor.new (field w32 (λ n. n == end_word) cursor.old) }
+    ensures { Reads (λ n. n) result cursor.new (end_at cursor.old) }
 {
     let at = cursor.place();
     let letters = cursor.u32()?;
@@ -70,8 +70,19 @@ fn end(cursor: &mut Cursor) -> Answer<u32>
     }
 }
 
-/// The number of the unit that is visited at a turn.
-fn unit_at(header: &Header, order: &Order, k: u32) -> u32
+/// Reads the end from the front of bytes, which stand at `base` in the library, and tells its letters and how many
+/// bytes it takes.
+pub fn decode_end(base: u64, bytes: &[u8]) -> Answer<(u32, usize)>
+    requires base { base ≤ 2 ^ 30 }
+    ensures { Answers (λ x. (x.0, x.1)) result (handed_out (starts_at base bytes.now) end_at) }
+{
+    let mut cursor = Cursor::new(base, bytes);
+    let letters = end(&mut cursor)?;
+    Ok((letters, (cursor.place() - base) as usize))
+}
+
+/// The number of the unit that is visited at a turn of the header's order of visits.
+pub fn unit_at(header: &Header, order: &Order, k: u32) -> u32
     requires header { IsHeader (head_of header.now) }
     requires order { order.now ≡ order_of header.now.points header.now.design.seed }
     requires len { length order.now ≡ header.now.points }

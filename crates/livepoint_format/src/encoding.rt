@@ -71,10 +71,10 @@ fn put_points(
     Ok(())
 }
 
-/// The bytes of a library.
-#[tactic(auto, unfolding(crate::specs::Format::spelling))]
-fn bytes_of(alloc: Global, library: &Library) -> Result<Vec<u8>, NoMemory>
-    ensures { IfOk result (λ bytes. bytes.items ≡ spelling library.now) }
+/// The bytes of a library in front of its end.
+fn parts_of(alloc: Global, library: &Library) -> Result<Vec<u8>, NoMemory>
+    ensures { IfOk result (λ bytes. bytes.items ≡ header_text library.now.head library.now.shared
+        ++ flat_map (point_text (is_first library.now.head) library.now.shared) library.now.points) }
 {
     let mut bytes = Vec::with_capacity(alloc, encoded_len(library) as usize)?;
     let header = library.header();
@@ -86,12 +86,10 @@ fn bytes_of(alloc: Global, library: &Library) -> Result<Vec<u8>, NoMemory>
         library.shared(),
         library.points(),
     )?;
-    put_word(&mut bytes, END)?;
     Ok(bytes)
 }
 
 /// The bytes of a library. Those of one that is longer than a library may be are written too, but aren't read.
-#[tactic(auto, using(crate::proofs::EncodingLemmas::read_of_bytes))]
 pub fn encode_library(alloc: Global, library: &Library) -> Result<Vec<u8>, NoMemory>
     ensures bytes { IfOk result (λ bytes. bytes.items ≡ spelling library.now) }
 
@@ -99,5 +97,7 @@ pub fn encode_library(alloc: Global, library: &Library) -> Result<Vec<u8>, NoMem
     ensures read { IfOk result (λ bytes. length bytes.items ≤ 1073741824 → library_of bytes.items ≡ Ok library.now) }
 {
     let _header = library.header();
-    bytes_of(alloc, library)
+    let mut bytes = parts_of(alloc, library)?;
+    put_word(&mut bytes, END)?;
+    Ok(bytes)
 }

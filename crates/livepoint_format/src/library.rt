@@ -1,5 +1,7 @@
 ghost use Rattle.std.specs.Prelude.{◌≡◌, ◌<◌, ◌≤◌, ◌^◌, [], length, slice_get, Some};
 ghost use Rattle.live_words.specs.Follow.{Follow};
+ghost use Rattle.live_words.specs.Words.{IsPair};
+ghost use Rattle.live_points.specs.Sharing.{ranks};
 ghost use Rattle.livepoint_format.specs.Values.{Whole};
 ghost use Rattle.livepoint_format.specs.Format.{IsHeader, IsPoint, IsTable, IsWhole, is_first, unit_of};
 ghost use Rattle.livepoint_format.specs.Views.{head_of};
@@ -79,6 +81,20 @@ impl Library {
         ensures { result.now ≡ self.now.points }
     {
         self.points.as_slice()
+    }
+
+    /// The same in version 2, with this table.
+    pub(crate) fn with_table(self, shared: Shared) -> Library
+        requires { Follow (IsPair ranks) [] shared }
+        ensures { result ≡ record { head = record self.head { version = 2 }; shared = shared; points = self.points } }
+    {
+        let Library {
+            mut header,
+            points,
+            ..
+        } = self;
+        header.version = 2;
+        Library::from_points(header, shared, points)
     }
 
     /// Hands out the points.

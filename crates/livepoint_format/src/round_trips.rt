@@ -10,7 +10,7 @@ const HEADER: [u8; 68] = [
     4, 0, 1, 0, 4, 0, 1, 0, 4, 0, 1, 0, 12, 0, 1, 0, 12, 0, 1, 0, 1, 0, 0, 0, 0, 4, 2, 0,
 ];
 
-const END_WORD: [u8; 4] = [0x54, 0x45, 0x4E, 0x44];
+pub(crate) const END_WORD: [u8; 4] = [0x54, 0x45, 0x4E, 0x44];
 
 /// In version 1, three words.
 const LISTED: [u32; 7] = [3, 0x0001_0050, 1, 0x0001_0054, 0x13, 0x0001_0058, 0x13];
@@ -22,7 +22,7 @@ const PARTS: [u32; 6] = [1, 1, 0x0001_0050, 1, 1, 2];
 const TABLE: [u32; 7] = [3, 0x0001_0000, 9, 0x0001_0054, 0x13, 0x0001_0058, 0x13];
 
 /// Numbers of four bytes, the lowest byte first.
-fn put(bytes: &mut Vec<u8>, numbers: &[u32]) -> Result<(), AllocError> {
+pub(crate) fn put(bytes: &mut Vec<u8>, numbers: &[u32]) -> Result<(), AllocError> {
     for n in numbers {
         bytes.extend_from_slice(&n.to_le_bytes())?;
     }
@@ -30,7 +30,7 @@ fn put(bytes: &mut Vec<u8>, numbers: &[u32]) -> Result<(), AllocError> {
 }
 
 /// Five records, the first with an entry, and an image that has learnt nothing.
-fn put_learnt(bytes: &mut Vec<u8>) -> Result<(), AllocError> {
+pub(crate) fn put_learnt(bytes: &mut Vec<u8>) -> Result<(), AllocError> {
     put(bytes, &[1, 0])?;
     bytes.push(1)?;
     put(bytes, &[5, 0, 0])?;

@@ -304,3 +304,16 @@ fn takes_parts(rt: HostRuntime) -> Result<(), Fail> {
     }
     Err("a header was refused".into())
 }
+
+/// The end by itself, good, bad and too short.
+#[test]
+fn takes_the_end(rt: HostRuntime) -> Result<(), Fail> {
+    assert_eq!(rt; decode_end(8, &END_WORD).ok(), Some((0x444E_4554, 4)));
+    let bad = decode_end(8, &[0x54, 0x45, 0x4E, 0x45]).err();
+    let fault = LibraryFault::BadField { at: 8 };
+    assert_eq!(rt; bad, Some(Refusal::Fault(fault)));
+    let short = decode_end(8, &[0x54, 0x45]).err();
+    let fault = LibraryFault::Truncated { at: 10 };
+    assert_eq!(rt; short, Some(Refusal::Fault(fault)));
+    Ok(())
+}
