@@ -1,3 +1,4 @@
+pub mod FrontLemmas
 pub mod LookupLemmas
 pub mod MarkedLemmas
 pub mod TraceLemmas

@@ -1,5 +1,5 @@
 -- Laws of marks and traces, and of the caches and the predictor that instructions leave.
-use Rattle.std.specs.Prelude.{◌≡◌, ℕ, ◌+◌, ◌<◌, Some, None, Ok, Err, List, [], ◌∷◌, ◌++◌, drop, take, length, All}
+use Rattle.std.specs.Prelude.{◌≡◌, ℕ, ◌+◌, ◌<◌, Some, None, Ok, Err, List, [], ◌++◌, drop, take, length, All}
 use Rattle.lru_plain.specs.Shape.{Shape}
 use Rattle.predictor.specs.declared.kind.PredictorKind.{PredictorKind}
 use Rattle.rv_exec.specs.Machine as machine

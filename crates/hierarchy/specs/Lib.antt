@@ -1,4 +1,6 @@
+pub mod CachesLending
 pub mod Config
+pub mod Front
 pub mod Lending
 pub mod Lookup
 pub mod Marked

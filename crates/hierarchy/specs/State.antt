@@ -1,5 +1,5 @@
 -- What caches and a predictor make of an instruction, and how they are after it.
-use Rattle.std.specs.Prelude.{ℕ, ◌/◌, Bool, true, false, List, fold}
+use Rattle.std.specs.Prelude.{◌/◌, Bool, true, false, List, fold}
 use Rattle.std.specs.Option.{option_map}
 use Rattle.predictor.specs.Rules.{is_mispredicted, observed}
 use Rattle.rv_exec.specs.declared.event.Event.{Event}

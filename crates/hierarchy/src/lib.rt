@@ -2,8 +2,10 @@
 //! instruction in program order: the marks that its timing needs.
 #![tactic(auto)]
 
+mod caches;
 mod config;
 mod laws;
+mod line;
 mod lookup;
 mod marked;
 mod places;

@@ -18,8 +18,9 @@ ghost use Rattle.hierarchy.specs.Lending.{LendsCaches, LendsPredictor};
 ghost use Rattle.hierarchy.specs.Trace.{IsAnnotated};
 ghost use Rattle.hierarchy.specs.Warming.{warmed};
 
+use crate::caches::Caches;
 use crate::config::Config;
-use crate::lookup::{fetch, latency_of, refer};
+use crate::lookup::latency_of;
 use crate::marked::Marked;
 use crate::places::Places;
 use crate::widths::Latencies;
@@ -32,7 +33,7 @@ use std::alloc::Global;
 /// The caches, the TLBs and the predictor of a processor. Only `new` takes memory.
 #[derive(Debug, Drop)]
 pub struct State {
-    caches: Places<PlainCache>,
+    caches: Caches,
     predictor: Predictor,
 }
 
@@ -54,13 +55,13 @@ impl State {
     {
         let places = &config.places;
         Ok(State {
-            caches: Places {
+            caches: Caches::new(Places {
                 l1i: PlainCache::new(alloc, places.l1i)?,
                 l1d: PlainCache::new(alloc, places.l1d)?,
                 l2: PlainCache::new(alloc, places.l2)?,
                 itlb: PlainCache::new(alloc, places.itlb)?,
                 dtlb: PlainCache::new(alloc, places.dtlb)?,
-            },
+            }),
             predictor: Predictor::new(alloc, config.kind)?,
         })
     }
@@ -70,7 +71,7 @@ impl State {
         ensures* writes_back { sem 𝓛 (LendsCaches self.entry result) }
         ensures value { result.now ≡ self.old.caches }
     {
-        &mut self.caches
+        self.caches.lend()
     }
 
     pub fn predictor(&mut self) -> &mut Predictor
@@ -81,8 +82,8 @@ impl State {
     }
 
     /// Makes the references of one instruction and learns from it. Answers its marks.
-    // Inlined, as `annotate` is: the marks are used at once, and needn't go through memory.
-    #[inline]
+    // Inlined, as `annotate` is: neither the event nor the marks need go through memory.
+    #[inline(always)]
     #[tactic(auto, unfolding(crate::specs::State::mark_of, crate::specs::State::after_event))]
     fn mark(&mut self, latencies: &Latencies, event: &Event) -> Marked
         requires latencies { AreLatencies latencies.now }
@@ -92,15 +93,15 @@ impl State {
         ensures state { self.new ≡ after_event self.old event.now }
         ensures marked { IsWellFormed event.now → IsMarked result }
     {
-        let fetched = fetch(&mut self.caches, event.pc);
-        let referred = refer(&mut self.caches, event.access);
+        let stall = self.caches.fetch(latencies, event.pc);
+        let referred = self.caches.refer(event.access);
         Marked {
             class: event.class,
             first: event.first,
             second: event.second,
             dest: event.dest,
             word: event.access.map(|access| access.addr / 4),
-            stall: fetched.delay(latencies),
+            stall,
             latency: latency_of(latencies, event.class, referred),
             mispredicted: self.predictor.observe(event),
             transferred: is_taken(event.control),
@@ -109,7 +110,7 @@ impl State {
 
     /// The marks of an instruction. To be called of one after the other in program order: each makes
     /// its references and is learnt from here.
-    #[inline]
+    #[inline(always)]
     pub fn annotate(&mut self, config: &Config, event: &Event) -> Marked
         requires config { IsConfig config.now }
         requires pc { event.now.pc % 4 ≡ 0 }

@@ -41,7 +41,8 @@ impl Predictor {
 
     /// Learns from the event of one instruction, and tells whether it was mispredicted. Instructions stand
     /// at multiples of 4.
-    #[inline]
+    // Inlined, as the step's observers call it: of an instruction that goes straight on nothing is left.
+    #[inline(always)]
     #[tactic(auto, using(crate::proofs::Trains::trained_more))]
     pub fn observe(&mut self, event: &Event) -> bool
         requires pc { event.now.pc % 4 ≡ 0 }

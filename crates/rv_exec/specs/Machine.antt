@@ -1,5 +1,6 @@
 -- A machine's state, and what one instruction leads to.
 use Rattle.std.specs.Prelude.{◌≡◌, ℕ, zero, suc, List, slice_index, slice_set, Option, Result, Ok, Err}
+use Rattle.rv_exec.specs.declared.event.Buffer.{Buffer}
 use Rattle.rv_exec.specs.declared.event.Event.{Event}
 use Rattle.rv_exec.specs.declared.event.TrapKind.{TrapKind}
 use Rattle.rv_exec.specs.declared.event.Trap.{Trap}
@@ -47,9 +48,27 @@ abbrev pub Leads : Outcome → Result Event TrapKind → State → Type 0
 Leads outcome (Ok event) after = outcome ≡ Went event after
 Leads outcome (Err kind) after = outcome ≡ Stopped kind
 
+-- the instruction was done: it led to this state, its event was shown, and the event's output is told
+pub record Shows (outcome : Outcome) (after : State) (wrote : Option Buffer) (IsShown : Event → Type 0) : Type 0 where
+  pub event : Event
+  pub went : outcome ≡ Went event after
+  pub output : event.wrote ≡ wrote
+  pub shown : IsShown event
+
+-- the same of an answer that tells the event's output, or a trap
+abbrev pub LeadsShown : Outcome → Result (Option Buffer) TrapKind → State → (Event → Type 0) → Type 0
+LeadsShown outcome (Ok wrote) after IsShown = Shows outcome after wrote IsShown
+LeadsShown outcome (Err kind) after IsShown = outcome ≡ Stopped kind
+
 -- the answer of a step and the state after it follow from the outcome. A trap leaves the state as
 -- it was before
 abbrev pub Follows : Outcome → State → Result Event Trap → State → Type 0
 Follows outcome before (Ok event) after = outcome ≡ Went event after
 Follows outcome before (Err trap) after =
+    (outcome ≡ Stopped trap.kind) × (trap.pc ≡ before.pc) × (after ≡ before)
+
+-- the same, where the event is shown and its output is told
+abbrev pub FollowsShown : Outcome → State → Result (Option Buffer) Trap → State → (Event → Type 0) → Type 0
+FollowsShown outcome before (Ok wrote) after IsShown = Shows outcome after wrote IsShown
+FollowsShown outcome before (Err trap) after IsShown =
     (outcome ≡ Stopped trap.kind) × (trap.pc ≡ before.pc) × (after ≡ before)

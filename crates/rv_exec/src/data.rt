@@ -1,68 +1,86 @@
 ghost use Rattle.std.specs.Prelude.{◌≡◌, ◌<◌, ◌%◌, OnOk, OnErr};
 ghost use Rattle.rv_exec.specs.Bytes as bytes;
 ghost use Rattle.rv_exec.specs.declared.event.TrapKind.TheVariants as trap;
-ghost use Rattle.rv_exec.specs.Machine.{state, Leads};
+ghost use Rattle.rv_exec.specs.Machine.{state, LeadsShown};
 ghost use Rattle.rv_exec.specs.Data as meaning;
 
 use crate::action::Size;
 use crate::bytes::{loaded, size_of, with_part};
-use crate::event::{DataRef, Event, TrapKind};
+use crate::event::{Buffer, DataRef, TrapKind};
 use crate::finish::{compute, go_on};
 use crate::memory::Memory;
 use crate::state::Core;
+use crate::watch::Watch;
 use rv_isa::Decoded;
-
-// `inline(always)` stands on all that a step calls: a call would hand the event, a record of some 60
-// bytes, through memory, which costs more than the instruction itself.
 
 /// A load. A load of a whole word has code of its own, which asks for no size.
 #[inline(always)]
-pub fn load<M: Memory>(
+pub fn load<M: Memory, W: Watch>(
     core: &mut Core,
     memory: &M,
+    watch: &mut W,
     word: u32,
     decoded: &Decoded,
     rd: u8,
     addr: u32,
     size: Size,
     signed: bool,
-) -> Result<Event, TrapKind>
+) -> Result<Option<Buffer>, TrapKind>
     requires sound { M.sound memory.now }
+    requires watch { W.sound watch.old }
     requires register { rd < 32 }
-    ensures leads { Leads
+    ensures leads { LeadsShown
         (meaning.loads
         (meaning.data_at (M.words memory.now) addr (bytes.size_of size) trap.MisalignedLoad)
         (state core.old (M.words memory.now) (M.buffers memory.now))
         word decoded.now.inst rd addr size signed)
-        result (state core.new (M.words memory.now) (M.buffers memory.now)) }
-    ensures unchanged { OnErr result (core.new ≡ core.old) }
+        result (state core.new (M.words memory.now) (M.buffers memory.now))
+        (λ e. W.sees watch.old e watch.new) }
+    ensures watch { W.sound watch.new }
+    ensures unchanged { OnErr result ((core.new ≡ core.old) × (watch.new ≡ watch.old)) }
 {
     match size {
-        Size::Word => load_sized(core, memory, word, decoded, rd, addr, Size::Word, signed),
-        Size::Byte | Size::Half => load_sized(core, memory, word, decoded, rd, addr, size, signed),
+        Size::Word => load_sized(
+            core,
+            memory,
+            watch,
+            word,
+            decoded,
+            rd,
+            addr,
+            Size::Word,
+            signed,
+        ),
+        Size::Byte | Size::Half => load_sized(
+            core, memory, watch, word, decoded, rd, addr, size, signed,
+        ),
     }
 }
 
 #[inline(always)]
-fn load_sized<M: Memory>(
+fn load_sized<M: Memory, W: Watch>(
     core: &mut Core,
     memory: &M,
+    watch: &mut W,
     word: u32,
     decoded: &Decoded,
     rd: u8,
     addr: u32,
     size: Size,
     signed: bool,
-) -> Result<Event, TrapKind>
+) -> Result<Option<Buffer>, TrapKind>
     requires sound { M.sound memory.now }
+    requires watch { W.sound watch.old }
     requires register { rd < 32 }
-    ensures leads { Leads
+    ensures leads { LeadsShown
         (meaning.loads
         (meaning.data_at (M.words memory.now) addr (bytes.size_of size) trap.MisalignedLoad)
         (state core.old (M.words memory.now) (M.buffers memory.now))
         word decoded.now.inst rd addr size signed)
-        result (state core.new (M.words memory.now) (M.buffers memory.now)) }
-    ensures unchanged { OnErr result (core.new ≡ core.old) }
+        result (state core.new (M.words memory.now) (M.buffers memory.now))
+        (λ e. W.sees watch.old e watch.new) }
+    ensures watch { W.sound watch.new }
+    ensures unchanged { OnErr result ((core.new ≡ core.old) × (watch.new ≡ watch.old)) }
 {
     let before = data_word(memory, addr, size, TrapKind::MisalignedLoad)?;
     let value = loaded(size, signed, before, addr);
@@ -71,55 +89,66 @@ fn load_sized<M: Memory>(
         store: false,
         before,
     };
-    Ok(compute(core, word, decoded, rd, value, Some(access), None))
+    compute(core, watch, word, decoded, rd, value, Some(access), None);
+    Ok(None)
 }
 
 /// A store, in the same way.
 #[inline(always)]
-pub fn store<M: Memory>(
+pub fn store<M: Memory, W: Watch>(
     core: &mut Core,
     memory: &mut M,
+    watch: &mut W,
     word: u32,
     decoded: &Decoded,
     addr: u32,
     size: Size,
     value: u32,
-) -> Result<Event, TrapKind>
-    requires { M.sound memory.old }
-    ensures leads { Leads
+) -> Result<Option<Buffer>, TrapKind>
+    requires sound { M.sound memory.old }
+    requires watch { W.sound watch.old }
+    ensures leads { LeadsShown
         (meaning.stores
         (meaning.data_at (M.words memory.old) addr (bytes.size_of size) trap.MisalignedStore)
         (state core.old (M.words memory.old) (M.buffers memory.old))
         word decoded.now.inst addr size value)
-        result (state core.new (M.words memory.new) (M.buffers memory.new)) }
+        result (state core.new (M.words memory.new) (M.buffers memory.new))
+        (λ e. W.sees watch.old e watch.new) }
     ensures sound { M.sound memory.new }
-    ensures unchanged { OnErr result ((core.new ≡ core.old) × (memory.new ≡ memory.old)) }
+    ensures watch { W.sound watch.new }
+    ensures unchanged { OnErr result ((core.new ≡ core.old) × (memory.new ≡ memory.old) × (watch.new ≡ watch.old)) }
 {
     match size {
-        Size::Word => store_sized(core, memory, word, decoded, addr, Size::Word, value),
-        Size::Byte | Size::Half => store_sized(core, memory, word, decoded, addr, size, value),
+        Size::Word => store_sized(core, memory, watch, word, decoded, addr, Size::Word, value),
+        Size::Byte | Size::Half => store_sized(
+            core, memory, watch, word, decoded, addr, size, value,
+        ),
     }
 }
 
 #[inline(always)]
-fn store_sized<M: Memory>(
+fn store_sized<M: Memory, W: Watch>(
     core: &mut Core,
     memory: &mut M,
+    watch: &mut W,
     word: u32,
     decoded: &Decoded,
     addr: u32,
     size: Size,
     value: u32,
-) -> Result<Event, TrapKind>
-    requires { M.sound memory.old }
-    ensures leads { Leads
+) -> Result<Option<Buffer>, TrapKind>
+    requires sound { M.sound memory.old }
+    requires watch { W.sound watch.old }
+    ensures leads { LeadsShown
         (meaning.stores
         (meaning.data_at (M.words memory.old) addr (bytes.size_of size) trap.MisalignedStore)
         (state core.old (M.words memory.old) (M.buffers memory.old))
         word decoded.now.inst addr size value)
-        result (state core.new (M.words memory.new) (M.buffers memory.new)) }
+        result (state core.new (M.words memory.new) (M.buffers memory.new))
+        (λ e. W.sees watch.old e watch.new) }
     ensures sound { M.sound memory.new }
-    ensures unchanged { OnErr result ((core.new ≡ core.old) × (memory.new ≡ memory.old)) }
+    ensures watch { W.sound watch.new }
+    ensures unchanged { OnErr result ((core.new ≡ core.old) × (memory.new ≡ memory.old) × (watch.new ≡ watch.old)) }
 {
     let before = data_word(memory, addr, size, TrapKind::MisalignedStore)?;
     memory.store_word(addr & !3, with_part(size, before, addr, value));
@@ -128,7 +157,8 @@ fn store_sized<M: Memory>(
         store: true,
         before,
     };
-    Ok(go_on(core, word, decoded, Some(access), None))
+    go_on(core, watch, word, decoded, Some(access), None);
+    Ok(None)
 }
 
 /// The word that holds the address of a load or a store.

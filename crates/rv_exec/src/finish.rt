@@ -2,15 +2,16 @@ ghost use Rattle.std.specs.Prelude.{◌≡◌, ◌<◌, ◌%◌, OnErr};
 ghost use Rattle.rv_exec.specs.Word as words;
 ghost use Rattle.rv_exec.specs.Memory.{Words, Buffers};
 ghost use Rattle.rv_exec.specs.Machine as machine;
-ghost use Rattle.rv_exec.specs.Machine.{state, Went, Leads};
+ghost use Rattle.rv_exec.specs.Machine.{state, Shows, LeadsShown};
 ghost use Rattle.rv_exec.specs.Finish as meaning;
 
 use crate::event::{Buffer, DataRef, Event, Flow, TrapKind};
 use crate::state::Core;
+use crate::watch::Watch;
 use rv_isa::Decoded;
 
-// `inline(always)` stands on all that a step calls: a call would hand the event, a record of some 60
-// bytes, through memory, which costs more than the instruction itself.
+// `inline(always)` stands on all that a step calls, so that what an observer doesn't use of an event, a record
+// of some 60 bytes, is never made: that would cost more than the instruction itself.
 
 /// The address of the instruction behind the one at `pc`.
 #[inline(always)]
@@ -34,22 +35,25 @@ pub fn set_register(core: &mut Core, rd: u8, value: u32)
     }
 }
 
-/// Ends an instruction that is done but for its pc, and tells what it did.
+/// Ends an instruction that is done but for its pc, and shows what it did.
 #[tactic(auto, unfolding(crate::specs::Finish::completes))]
 #[inline(always)]
-pub fn complete(
+pub fn complete<W: Watch>(
     core: &mut Core,
+    watch: &mut W,
     word: u32,
     decoded: &Decoded,
     access: Option<DataRef>,
     control: Flow,
     next: u32,
     wrote: Option<Buffer>,
-) -> Event
-    requires { next % 4 ≡ 0 }
-    ensures { (m : Words) (b : Buffers)
-        → meaning.completes (state core.old m b) word decoded.now.inst access control next wrote
-        ≡ Went result (state core.new m b) }
+)
+    requires sound { W.sound watch.old }
+    requires next { next % 4 ≡ 0 }
+    ensures shows { (m : Words) (b : Buffers)
+        → Shows (meaning.completes (state core.old m b) word decoded.now.inst access control next wrote)
+        (state core.new m b) wrote (λ e. W.sees watch.old e watch.new) }
+    ensures sound { W.sound watch.new }
 {
     let event = Event {
         pc: core.pc,
@@ -64,97 +68,121 @@ pub fn complete(
         wrote,
     };
     core.pc = next;
-    event
+    watch.see(&event);
 }
 
 /// The same, where the instruction behind it comes next.
 #[tactic(auto, unfolding(crate::specs::Finish::goes_on))]
 #[inline(always)]
-pub fn go_on(
+pub fn go_on<W: Watch>(
     core: &mut Core,
+    watch: &mut W,
     word: u32,
     decoded: &Decoded,
     access: Option<DataRef>,
     wrote: Option<Buffer>,
-) -> Event
-    ensures { (m : Words) (b : Buffers)
-        → meaning.goes_on (state core.old m b) word decoded.now.inst access wrote
-        ≡ Went result (state core.new m b) }
+)
+    requires { W.sound watch.old }
+    ensures shows { (m : Words) (b : Buffers)
+        → Shows (meaning.goes_on (state core.old m b) word decoded.now.inst access wrote)
+        (state core.new m b) wrote (λ e. W.sees watch.old e watch.new) }
+    ensures sound { W.sound watch.new }
 {
     let next = following(core.pc);
-    complete(core, word, decoded, access, Flow::Straight, next, wrote)
+    complete(
+        core,
+        watch,
+        word,
+        decoded,
+        access,
+        Flow::Straight,
+        next,
+        wrote,
+    );
 }
 
 /// The same, with a value for a register.
 #[tactic(auto, unfolding(crate::specs::Finish::computes))]
 #[inline(always)]
-pub fn compute(
+pub fn compute<W: Watch>(
     core: &mut Core,
+    watch: &mut W,
     word: u32,
     decoded: &Decoded,
     rd: u8,
     value: u32,
     access: Option<DataRef>,
     wrote: Option<Buffer>,
-) -> Event
-    requires { rd < 32 }
-    ensures { (m : Words) (b : Buffers)
-        → meaning.computes (state core.old m b) word decoded.now.inst rd value access wrote
-        ≡ Went result (state core.new m b) }
+)
+    requires sound { W.sound watch.old }
+    requires register { rd < 32 }
+    ensures shows { (m : Words) (b : Buffers)
+        → Shows (meaning.computes (state core.old m b) word decoded.now.inst rd value access wrote)
+        (state core.new m b) wrote (λ e. W.sees watch.old e watch.new) }
+    ensures sound { W.sound watch.new }
 {
     set_register(core, rd, value);
-    go_on(core, word, decoded, access, wrote)
+    go_on(core, watch, word, decoded, access, wrote);
 }
 
 #[tactic(auto, unfolding(crate::specs::Finish::branches))]
 #[inline(always)]
-pub fn branch(
+pub fn branch<W: Watch>(
     core: &mut Core,
+    watch: &mut W,
     word: u32,
     decoded: &Decoded,
     taken: bool,
     target: u32,
-) -> Result<Event, TrapKind>
+) -> Result<Option<Buffer>, TrapKind>
+    requires { W.sound watch.old }
     ensures leads { (m : Words) (b : Buffers)
-        → Leads (meaning.branches (state core.old m b) word decoded.now.inst taken target)
-        result (state core.new m b) }
-    ensures unchanged { OnErr result (core.new ≡ core.old) }
+        → LeadsShown (meaning.branches (state core.old m b) word decoded.now.inst taken target)
+        result (state core.new m b) (λ e. W.sees watch.old e watch.new) }
+    ensures sound { W.sound watch.new }
+    ensures unchanged { OnErr result ((core.new ≡ core.old) × (watch.new ≡ watch.old)) }
 {
     let next = if taken { target } else { following(core.pc) };
     if next % 4 != 0 {
         return Err(TrapKind::BadTarget);
     }
-    Ok(complete(
+    complete(
         core,
+        watch,
         word,
         decoded,
         None,
         Flow::Branch { taken },
         next,
         None,
-    ))
+    );
+    Ok(None)
 }
 
 #[tactic(auto, unfolding(crate::specs::Finish::jumps))]
 #[inline(always)]
-pub fn jump(
+pub fn jump<W: Watch>(
     core: &mut Core,
+    watch: &mut W,
     word: u32,
     decoded: &Decoded,
     rd: u8,
     target: u32,
     control: Flow,
-) -> Result<Event, TrapKind>
-    requires { rd < 32 }
+) -> Result<Option<Buffer>, TrapKind>
+    requires sound { W.sound watch.old }
+    requires register { rd < 32 }
     ensures leads { (m : Words) (b : Buffers)
-        → Leads (meaning.jumps (state core.old m b) word decoded.now.inst rd target control)
-        result (state core.new m b) }
-    ensures unchanged { OnErr result (core.new ≡ core.old) }
+        → LeadsShown (meaning.jumps (state core.old m b) word decoded.now.inst rd target control)
+        result (state core.new m b) (λ e. W.sees watch.old e watch.new) }
+    ensures sound { W.sound watch.new }
+    ensures unchanged { OnErr result ((core.new ≡ core.old) × (watch.new ≡ watch.old)) }
 {
     if target % 4 != 0 {
         return Err(TrapKind::BadTarget);
     }
     let link = following(core.pc);
     set_register(core, rd, link);
-    Ok(complete(core, word, decoded, None, control, target, None))
+    complete(core, watch, word, decoded, None, control, target, None);
+    Ok(None)
 }

@@ -18,9 +18,11 @@ mod state;
 mod stepping;
 #[cfg(test)]
 mod tests;
+mod watch;
 
 pub use event::{Buffer, DataRef, Event, Flow, Trap, TrapKind};
 pub use laws::{every_step, mapped_buffers, run_laws};
 pub use memory::Memory;
 pub use state::Core;
-pub use stepping::{step, step_with};
+pub use stepping::{step, step_watched, step_with};
+pub use watch::{Latest, Nobody, Watch};

@@ -4,6 +4,7 @@ pub mod OutcomeLemmas
 pub mod OutputLemmas
 pub mod PlaceLemmas
 pub mod ProgramMemoryLemmas
+pub mod ShownLemmas
 pub mod StartBlockLemmas
 pub mod StartLemmas
 pub mod UnderWayLemmas

@@ -9,7 +9,6 @@ use Rattle.rv_exec.specs.declared.event.Buffer.{Buffer}
 use Rattle.rv_exec.specs.Memory.{Words, Mapped, passes}
 use Rattle.rv_exec.specs.Machine.{State, Went}
 use Rattle.rv_exec.specs.Next.{next}
-use Rattle.rv_exec.proofs.StepsLemmas.{stepped}
 use Rattle.rv_machine.specs.Machine.{Machine, WantsMemory}
 use Rattle.rv_machine.specs.Output.{byte_at, bytes_at}
 use Rattle.rv_machine.proofs.WriteLemmas.{IsWrite, wrote}
@@ -25,13 +24,12 @@ end_of low heap_low addr len highest some covered = grind (arith, nat_tests)
 pub undone :
     (s after : State) (e : Event) (b : Buffer)
     → next s ≡ Went e after → e.wrote ≡ Some b
-    → record after { pc = e.pc; regs = slice_set after.regs 10 (slice_index s.regs 10) } ≡ s
+    → record after { pc = s.pc; regs = slice_set after.regs 10 (slice_index s.regs 10) } ≡ s
 undone s after e b went is =
     let call : IsWrite s b after = wrote s after e b went is in
-    let pc : e.pc ≡ s.pc = (stepped s e after went).pc in
     let regs : slice_set (slice_set s.regs 10 b.len) 10 (slice_index s.regs 10) ≡ s.regs =
     set-set s.regs 10 b.len (slice_index s.regs 10) ∙ set-get_or s.regs 10 0 in
-    rw (call.state, pc, regs) refl
+    rw (call.state, regs) refl
 
 length_bytes : (words : Words) (addr len : ℕ) → length (bytes_at words addr len) ≡ len
 unfolding bytes_at
@@ -46,7 +44,7 @@ pub no_memory :
     × (◌≡◌ {A = Machine}
     (record {
       state = record after {
-        pc = e.pc;
+        pc = before.state.pc;
         regs = slice_set after.regs 10 (slice_index before.state.regs 10);
       };
       keeps = before.keeps;

@@ -2,6 +2,7 @@
 use Rattle.std.specs.Prelude.{◌≡◌, ◌<◌, ℕ, Bool, true, false, if◌then◌else◌, List, [], ◌++◌, length, None, Result, Ok, Err}
 use Rattle.elf_image.specs.Image.{ImageValue}
 use Rattle.rv_exec.specs.declared.event.Event.{Event}
+use Rattle.rv_exec.specs.Event.{IsWellFormed}
 use Rattle.rv_exec.specs.Machine.{State, Went, Stopped}
 use Rattle.rv_exec.specs.Next.{next}
 use Rattle.rv_exec.specs.Runs.{state_after, step_at}
@@ -47,6 +48,24 @@ Advances old (Ok event) new = (next old.state ≡ Went event new.state)
 Advances old (Err (Trap trap)) new = (next old.state ≡ Stopped trap.kind)
     × (trap.pc ≡ old.state.pc) × (new ≡ old)
 Advances old (Err NoMemory) new = WantsMemory old × (new ≡ old)
+
+-- the instruction was done, and its event was shown
+pub record AdvancesShown (old new : Machine) (IsShown : Event → Type 0) : Type 0 where
+  pub event : Event
+  pub advances : Advances old (Ok event) new
+  pub well_formed : IsWellFormed event
+  pub shown : IsShown event
+
+-- the same of an answer that leaves the event to an observer
+abbrev pub AdvancesWith : Machine → Result Unit MachineFault → Machine → (Event → Type 0) → Type 0
+AdvancesWith old (Ok done) new IsShown = AdvancesShown old new IsShown
+AdvancesWith old (Err fault) new IsShown = Advances old (Err fault) new
+
+-- what holds where the instruction trapped
+abbrev pub OnTrap : Result Unit MachineFault → Type 0 → Type 0
+OnTrap (Ok done) Holds = Unit {0}
+OnTrap (Err (Trap trap)) Holds = Holds
+OnTrap (Err NoMemory) Holds = Unit {0}
 
 -- the run has come to the instruction of that number: none before it exited or trapped
 pub record IsUnderWay (start : Machine) (at : ℕ) (now : Machine) : Type 0 where

@@ -4,14 +4,14 @@ ghost use Rattle.rv_exec.specs.Event.{IsWellFormed};
 ghost use Rattle.rv_exec.specs.Machine.{state};
 ghost use Rattle.rv_exec.specs.Memory.{Mapped, word_at};
 ghost use Rattle.rv_machine.specs.ProgramMemory.{IsWordAddress};
-ghost use Rattle.rv_machine.specs.Machine.{started, machine_after, Advances, StandsBefore};
+ghost use Rattle.rv_machine.specs.Machine.{started, machine_after, Advances, AdvancesWith, OnTrap, StandsBefore};
 ghost use Rattle.rv_machine.specs.Outcome.{outcome_of, IsOutcome};
 
 use crate::outcome::{MachineFault, Outcome};
 use crate::output::append;
 use crate::program_memory::ProgramMemory;
 use elf_image::Image;
-use rv_exec::{Core, Event, Memory, step_with};
+use rv_exec::{Core, Event, Latest, Memory, Nobody, Watch, step_watched};
 use rv_isa::Decoder;
 use smarts_base::NoMemory;
 use std::alloc::Global;
@@ -81,30 +81,47 @@ impl Whole {
 
     /// Executes one instruction. Memory can be wanted only where the output is kept and the
     /// instruction writes to it.
-    // Inlined, so that the event needn't go through memory and what isn't used of it isn't made.
     #[inline(always)]
     pub fn advance(&mut self) -> Result<Event, MachineFault>
         requires { self.old.state.exit ≡ None }
         ensures advances { Advances self.old result self.new }
         ensures well_formed { IfOk result IsWellFormed }
     {
+        let mut latest = Latest { event: None };
+        match self.advance_watched(&mut latest) {
+            Ok(()) => Ok(latest.event.unwrap()),
+            Err(fault) => Err(fault),
+        }
+    }
+
+    /// The same, where an observer is shown the event. At a want of memory it was shown the event of the call.
+    // Inlined, so that the event needn't go through memory and what isn't used of it isn't made.
+    #[inline(always)]
+    pub fn advance_watched<W: Watch>(&mut self, watch: &mut W) -> Result<(), MachineFault>
+        requires running { self.old.state.exit ≡ None }
+        requires watch { W.sound watch.old }
+        ensures advances { AdvancesWith self.old result self.new (λ e. W.sees watch.old e watch.new) }
+        ensures watch { W.sound watch.new }
+        ensures unchanged { OnTrap result (watch.new ≡ watch.old) }
+    {
+        let pc = self.core.pc;
         let before = self.core.regs[ANSWER];
-        let event = match step_with(&mut self.decoder, &mut self.core, &mut self.memory) {
-            Ok(event) => event,
+        let wrote = match step_watched(&mut self.decoder, &mut self.core, &mut self.memory, watch) {
+            Ok(wrote) => wrote,
             Err(trap) => return Err(MachineFault::Trap(trap)),
         };
-        let Some(buffer) = event.wrote else {
-            return Ok(event);
+        let Some(buffer) = wrote else {
+            return Ok(());
         };
         if !self.keep_output {
-            return Ok(event);
+            return Ok(());
         }
         match append(&mut self.output, &self.memory, buffer) {
-            Ok(()) => Ok(event),
+            Ok(()) => Ok(()),
             Err(NoMemory) => {
                 // The call is undone: it has changed nothing else.
                 self.core.regs[ANSWER] = before;
-                self.core.pc = event.pc;
+                self.core.pc = pc;
                 Err(MachineFault::NoMemory)
             }
         }
@@ -118,9 +135,10 @@ impl Whole {
         ensures machine { OnOk result (self.new ≡ machine_after self.old budget) }
         ensures no_memory { OnErr result (StandsBefore self.old budget self.new) }
     {
+        let mut nobody = Nobody {};
         for at in 0..budget {
-            match self.advance() {
-                Ok(_) => {}
+            match self.advance_watched(&mut nobody) {
+                Ok(()) => {}
                 Err(MachineFault::Trap(trap)) => return Ok(Outcome::Trapped { at, trap }),
                 Err(MachineFault::NoMemory) => return Err(NoMemory),
             }

@@ -56,7 +56,7 @@ impl PredictorImage {
     }
 
     /// Learns from an event, and tells whether it was mispredicted.
-    #[inline]
+    #[inline(always)]
     pub(crate) fn observe(&mut self, event: &Event) -> bool
         requires pc { event.now.pc % 4 ≡ 0 }
         requires next { event.now.next % 4 ≡ 0 }
