@@ -1,0 +1,3 @@
+pub mod AnswersLemmas
+pub mod BuiltLemmas
+pub mod MarksLemmas
