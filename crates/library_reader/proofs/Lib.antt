@@ -1,0 +1,4 @@
+pub mod HandingLemmas
+pub mod IntakeLemmas
+pub mod ReadingLemmas
+pub mod SizeLemmas
