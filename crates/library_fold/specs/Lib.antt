@@ -1,0 +1,4 @@
+pub mod Batches
+pub mod Folding
+pub mod Given
+pub mod Stops
