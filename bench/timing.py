@@ -36,9 +36,9 @@ def seconds(command, image):
 
 
 @contextlib.contextmanager
-def reference():
+def reference(program=PROGRAM):
     """The reference program as a command, made anew, or None where there is nothing to compare with."""
-    if not os.path.isdir(IMAGES) or not shutil.which("g++") or not os.path.isfile(PROGRAM):
+    if not os.path.isdir(IMAGES) or not shutil.which("g++") or not os.path.exists(program):
         print("nothing to compare: the images, g++ or the built program are missing")
         yield None
         return

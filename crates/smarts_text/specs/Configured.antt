@@ -1,5 +1,5 @@
 -- The processor that accepted words ask for, by the keys with a prefix and else without.
-use Rattle.std.specs.Prelude.{ℕ, List, option_and_then}
+use Rattle.std.specs.Prelude.{ℕ, List, Option, option_and_then}
 use Rattle.std.specs.Option.{unwrap_or}
 use Rattle.std.specs.Result.{result_ok}
 use Rattle.hierarchy.specs.declared.config.Config.{Config}
@@ -10,7 +10,7 @@ use Rattle.lru_plain.specs.Shape.{Shape}
 use Rattle.predictor.specs.declared.kind.PredictorKind.{PredictorKind}
 use Rattle.predictor.specs.declared.kind.Scheme.TheVariants.{Bimodal}
 use Rattle.smarts_text.specs.declared.keys.Form.{Form}
-use Rattle.smarts_text.specs.declared.keys.Form.TheVariants.{Cache, Tlb, Kind}
+use Rattle.smarts_text.specs.declared.keys.Form.TheVariants.{Cache, Tlb, Kind, Kinds}
 use Rattle.smarts_text.specs.Asked.{number_in, is_ruu_in}
 use Rattle.smarts_text.specs.Keys as Keys
 use Rattle.smarts_text.specs.Keys.{Key}
@@ -33,28 +33,33 @@ usual_tlb form = shape 12 0 1
 -- the default of a key that has predictors
 abbrev pub usual_kind : Form → PredictorKind
 usual_kind (Kind usual) = usual
+usual_kind (Kinds usual) = usual
 usual_kind form = record { scheme = Bimodal; bits = 4; target_log = 2; depth = 0 }
 
+-- what is said of a key that has caches, of one that has TLBs, and of one that has predictors
+unfoldable pub cache_asked : List ℕ → List (List ℕ) → Key → Option Shape
+cache_asked prefix words key =
+    option_and_then (λ text. result_ok (cache_read text)) (value_under prefix key.name words)
+
+unfoldable pub tlb_asked : List ℕ → List (List ℕ) → Key → Option Shape
+tlb_asked prefix words key =
+    option_and_then (λ text. result_ok (tlb_read text)) (value_under prefix key.name words)
+
+unfoldable pub kind_asked : List ℕ → List (List ℕ) → Key → Option PredictorKind
+kind_asked prefix words key =
+    option_and_then (λ text. result_ok (kind_read text)) (value_under prefix key.name words)
+
 -- the cache of a key
-unfoldable pub cache_in : List ℕ → List (List ℕ) → Key → Shape
-cache_in prefix words key =
-    unwrap_or
-    (option_and_then (λ text. result_ok (cache_read text)) (value_under prefix key.name words))
-    (usual_cache key.form)
+abbrev pub cache_in : List ℕ → List (List ℕ) → Key → Shape
+cache_in prefix words key = unwrap_or (cache_asked prefix words key) (usual_cache key.form)
 
 -- the TLB of a key
-unfoldable pub tlb_in : List ℕ → List (List ℕ) → Key → Shape
-tlb_in prefix words key =
-    unwrap_or
-    (option_and_then (λ text. result_ok (tlb_read text)) (value_under prefix key.name words))
-    (usual_tlb key.form)
+abbrev pub tlb_in : List ℕ → List (List ℕ) → Key → Shape
+tlb_in prefix words key = unwrap_or (tlb_asked prefix words key) (usual_tlb key.form)
 
 -- the predictor of a key
-unfoldable pub kind_in : List ℕ → List (List ℕ) → Key → PredictorKind
-kind_in prefix words key =
-    unwrap_or
-    (option_and_then (λ text. result_ok (kind_read text)) (value_under prefix key.name words))
-    (usual_kind key.form)
+abbrev pub kind_in : List ℕ → List (List ℕ) → Key → PredictorKind
+kind_in prefix words key = unwrap_or (kind_asked prefix words key) (usual_kind key.form)
 
 unfoldable pub places_in : List ℕ → List (List ℕ) → Places Shape
 places_in prefix words = record {

@@ -6,7 +6,7 @@ use Rattle.hierarchy.specs.Config.{IsCacheShape, IsTlbShape}
 use Rattle.predictor.specs.Kind.{IsKind}
 use Rattle.predictor.specs.declared.kind.Scheme.TheVariants.{Gshare}
 use Rattle.smarts_text.specs.declared.keys.Form.{Form}
-use Rattle.smarts_text.specs.declared.keys.Form.TheVariants.{Number, Machine, Cache, Tlb, Kind}
+use Rattle.smarts_text.specs.declared.keys.Form.TheVariants.{Number, Machine, Cache, Tlb, Kind, Kinds}
 use Rattle.smarts_text.specs.declared.keys.Group.{Group}
 use Rattle.smarts_text.specs.declared.keys.Group.TheVariants as groups
 use Rattle.smarts_text.specs.declared.keys.Key as code
@@ -48,6 +48,9 @@ z_key = key (codes "z") groups.Test (Number 1 4000 3000)
 abbrev pub error_key : Key
 error_key = key (codes "error") groups.Test (Number 1 5000 300)
 
+abbrev pub workers_key : Key
+workers_key = key (codes "workers") groups.Workers (Number 1 64 1)
+
 -- the default is `ruu`
 abbrev pub machine_key : Key
 machine_key = key (codes "machine") groups.Timing (Machine true)
@@ -71,6 +74,10 @@ dtlb_key = key (codes "dtlb") groups.Caches (Tlb 4 4)
 
 abbrev pub predictor_key : Key
 predictor_key = key (codes "predictor") groups.Predictor (Kind (record { scheme = Gshare; bits = 12; target_log = 9; depth = 8 }))
+
+-- of a library, which may be made for several
+abbrev pub predictors_key : Key
+predictors_key = key (codes "predictor") groups.Predictors (Kinds (record { scheme = Gshare; bits = 12; target_log = 9; depth = 8 }))
 
 abbrev pub fetch_key : Key
 fetch_key = key (codes "fetch") groups.Timing (Number 1 8 4)
@@ -141,14 +148,16 @@ size_key = key (codes "size") groups.Size (Number 1 1000000 1)
 
 unfoldable pub keys : List Key
 keys =
-    unit_key ∷ warm_key ∷ every_key ∷ offset_key ∷ seed_key ∷ budget_key ∷ min_key ∷ z_key ∷ error_key ∷ machine_key ∷ l1i_key ∷ l1d_key ∷ l2_key ∷ itlb_key ∷ dtlb_key ∷ predictor_key ∷ fetch_key ∷ dispatch_key ∷ issue_key ∷ retire_key ∷ queue_key ∷ ruu_key ∷ lsq_key ∷ penalty_key ∷ alus_key ∷ muls_key ∷ divs_key ∷ loads_key ∷ stores_key ∷ branches_key ∷ mullat_key ∷ divlat_key ∷ l1lat_key ∷ fwdlat_key ∷ l2lat_key ∷ memlat_key ∷ tlblat_key ∷ size_key ∷ []
+    unit_key ∷ warm_key ∷ every_key ∷ offset_key ∷ seed_key ∷ budget_key ∷ min_key ∷ z_key ∷ error_key ∷ workers_key ∷ machine_key ∷ l1i_key ∷ l1d_key ∷ l2_key ∷ itlb_key ∷ dtlb_key ∷ predictor_key ∷ predictors_key ∷ fetch_key ∷ dispatch_key ∷ issue_key ∷ retire_key ∷ queue_key ∷ ruu_key ∷ lsq_key ∷ penalty_key ∷ alus_key ∷ muls_key ∷ divs_key ∷ loads_key ∷ stores_key ∷ branches_key ∷ mullat_key ∷ divlat_key ∷ l1lat_key ∷ fwdlat_key ∷ l2lat_key ∷ memlat_key ∷ tlblat_key ∷ size_key ∷ []
 
 abbrev pub is_same : Group → Group → Bool
 is_same groups.Design groups.Design = true
 is_same groups.Budget groups.Budget = true
 is_same groups.Test groups.Test = true
+is_same groups.Workers groups.Workers = true
 is_same groups.Caches groups.Caches = true
 is_same groups.Predictor groups.Predictor = true
+is_same groups.Predictors groups.Predictors = true
 is_same groups.Timing groups.Timing = true
 is_same groups.Size groups.Size = true
 is_same _ _ = false
@@ -179,3 +188,4 @@ IsUsual (Cache line_log sets_log ways) =
 IsUsual (Tlb sets_log ways) =
     IsTlbShape (record { line_log = 12; sets_log = sets_log; ways = ways })
 IsUsual (Kind usual) = IsKind usual
+IsUsual (Kinds usual) = IsKind usual

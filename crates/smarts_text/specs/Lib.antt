@@ -2,9 +2,12 @@ pub mod Asked
 pub mod Command
 pub mod Configured
 pub mod Keys
+pub mod Kinds
 pub mod Number
 pub mod Parts
+pub mod Processor
 pub mod Read
+pub mod Recorded
 pub mod Report
 pub mod Shapes
 pub mod Status

@@ -2,6 +2,8 @@
 use Rattle.std.specs.Prelude.{ℕ}
 use Rattle.elf_image.specs.declared.fault.ImageFault.{ImageFault}
 use Rattle.elf_image.specs.declared.fault.ImageFault.TheVariants as images
+use Rattle.livepoint_format.specs.declared.fault.LibraryFault.{LibraryFault}
+use Rattle.livepoint_format.specs.declared.fault.LibraryFault.TheVariants as libraries
 use Rattle.rv_exec.specs.declared.event.TrapKind.{TrapKind}
 use Rattle.rv_exec.specs.declared.event.TrapKind.TheVariants as traps
 use Rattle.smarts_text.specs.declared.read.WordKind.{WordKind}
@@ -18,6 +20,7 @@ status_number (statuses.BadWords fault) = 1
 status_number (statuses.BadImage fault) = 2
 status_number (statuses.Trapped at trap) = 3
 status_number (statuses.BudgetSpent budget) = 4
+status_number (statuses.BadLibrary fault) = 5
 status_number (statuses.BadDesign fault) = 6
 status_number statuses.ReadFault = 7
 status_number (statuses.WriteFault taken) = 8
@@ -56,11 +59,44 @@ trap_number traps.Missing = 5
 trap_number traps.Break = 6
 trap_number traps.BadBuffer = 7
 
+abbrev pub library_number : LibraryFault → ℕ
+library_number libraries.BadMagic = 1
+library_number libraries.BadVersion = 2
+library_number (libraries.BadField at) = 3
+library_number (libraries.Truncated at) = 4
+library_number (libraries.BadRecord point place fault) = 5
+library_number (libraries.BadWords point) = 6
+library_number (libraries.BadOrder point) = 7
+library_number (libraries.TrailingBytes at) = 8
+library_number (libraries.TooLarge length) = 9
+library_number (libraries.BadPoint point fault) = 10
+library_number (libraries.BadShared index) = 11
+library_number (libraries.BadRuns point) = 12
+
+-- where a library is at fault: the point, the byte, the number of bytes, or the pair of the table
+abbrev pub library_place : LibraryFault → ℕ
+library_place libraries.BadMagic = 0
+library_place libraries.BadVersion = 0
+library_place (libraries.BadField at) = at
+library_place (libraries.Truncated at) = at
+library_place (libraries.BadRecord point place fault) = point
+library_place (libraries.BadWords point) = point
+library_place (libraries.BadOrder point) = point
+library_place (libraries.TrailingBytes at) = at
+library_place (libraries.TooLarge length) = length
+library_place (libraries.BadPoint point fault) = point
+library_place (libraries.BadShared index) = index
+library_place (libraries.BadRuns point) = point
+
 abbrev pub design_number : DesignFault → ℕ
 design_number (designs.NoUnits length) = 1
 design_number (designs.TooMany count) = 2
+design_number (designs.LibraryTooLarge length) = 3
+design_number (designs.Beyond structure) = 4
 
--- the length or the count that the fault names
+-- the length, the count or the structure that the fault names
 abbrev pub design_value : DesignFault → ℕ
 design_value (designs.NoUnits length) = length
 design_value (designs.TooMany count) = count
+design_value (designs.LibraryTooLarge length) = length
+design_value (designs.Beyond structure) = structure

@@ -3,7 +3,7 @@ use Rattle.std.specs.Prelude.{◌≡◌, ◌≤◌, length, drop, ◌++◌, ◌/
 use Rattle.std.specs.Fmt.{decimal, digit_glyph}
 use Rattle.smarts_text.specs.declared.status.Status.{Status}
 use Rattle.smarts_text.specs.declared.status.Status.TheVariants as statuses
-use Rattle.smarts_text.specs.Status.{word_number, image_number, trap_number, design_number, design_value}
+use Rattle.smarts_text.specs.Status.{word_number, image_number, trap_number, library_number, library_place, design_number, design_value}
 
 -- the last digits of a number to the base 16, in lower case
 abbrev pub hex_digits : ℕ → ℕ → List ℕ
@@ -21,6 +21,9 @@ fault_line (statuses.Trapped at trap) =
     codes "trapped at " ++ decimal at ++ codes ": kind " ++ decimal (trap_number trap.kind)
     ++ codes ", pc " ++ hex_digits 8 trap.pc ++ codes "\n"
 fault_line (statuses.BudgetSpent budget) = codes "budget spent after " ++ decimal budget ++ codes "\n"
+fault_line (statuses.BadLibrary fault) =
+    codes "library: fault " ++ decimal (library_number fault) ++ codes " at "
+    ++ decimal (library_place fault) ++ codes "\n"
 fault_line (statuses.BadDesign fault) =
     codes "design: fault " ++ decimal (design_number fault) ++ codes " value "
     ++ decimal (design_value fault) ++ codes "\n"

@@ -4,9 +4,10 @@ use Rattle.std.specs.Option.{ok_or}
 use Rattle.std.specs.Result.{result_err}
 use Rattle.std.specs.Str.{bytes_eq}
 use Rattle.smarts_text.specs.declared.keys.Form.{Form}
-use Rattle.smarts_text.specs.declared.keys.Form.TheVariants.{Number, Machine, Cache, Tlb, Kind}
+use Rattle.smarts_text.specs.declared.keys.Form.TheVariants.{Number, Machine, Cache, Tlb, Kind, Kinds}
 use Rattle.smarts_text.specs.declared.read.WordKind.{WordKind}
 use Rattle.smarts_text.specs.declared.read.WordKind.TheVariants.{BadValue}
+use Rattle.smarts_text.specs.Kinds.{kinds_read}
 use Rattle.smarts_text.specs.Number.{number_read}
 use Rattle.smarts_text.specs.Shapes.{cache_read, tlb_read, kind_read}
 
@@ -27,3 +28,4 @@ misread (Machine usual) text = result_err (machine_read text)
 misread (Cache line_log sets_log ways) text = result_err (cache_read text)
 misread (Tlb sets_log ways) text = result_err (tlb_read text)
 misread (Kind usual) text = result_err (kind_read text)
+misread (Kinds usual) text = result_err (kinds_read text)

@@ -6,12 +6,15 @@ ghost use Rattle.smarts_text.specs.Keys as key_specs;
 use crate::asked::{design, number, test};
 use crate::configured::config;
 use crate::keys::{self, Group, Key};
+use crate::processor::{Asked, asked_processor};
+use crate::recorded::records;
 use confidence::Test;
 use hierarchy::Config;
+use live_points::Records;
 use sample_design::Design;
 
 /// What the words of a command line ask for.
-#[derive(Debug, Drop, PartialEq, Eq)]
+#[derive(Debug, Drop)]
 pub enum Command {
     /// To simulate a sample of the program's run.
     Sample {
@@ -25,6 +28,19 @@ pub enum Command {
         design: Design,
         config: Config,
         test: Test,
+    },
+    /// To write the library of the program's run.
+    Warm {
+        design: Design,
+        records: Records,
+    },
+    /// To write a library with its shared words standing once.
+    Migrate,
+    /// To estimate from a library alone, with so many workers, from 1 to 64.
+    Estimate {
+        asked: Asked,
+        test: Test,
+        workers: u32,
     },
     /// To run the program, for at most `budget` instructions, from 1 to 2^36.
     Run {
@@ -53,6 +69,16 @@ impl Command {
                 config: config(words, ""),
                 test: test(words),
             }),
+            "warm" => Some(Command::Warm {
+                design: design(words),
+                records: records(words),
+            }),
+            "migrate" => Some(Command::Migrate),
+            "estimate" => Some(Command::Estimate {
+                asked: asked_processor(words, ""),
+                test: test(words),
+                workers: number(words, "", &keys::WORKERS) as u32,
+            }),
             "run" => Some(Command::Run {
                 budget: number(words, "", &keys::BUDGET),
             }),
@@ -78,6 +104,20 @@ impl Command {
                 Group::Design,
                 Group::Budget,
                 Group::Test,
+                Group::Caches,
+                Group::Predictor,
+                Group::Timing,
+            ],
+            Command::Warm { .. } => &[
+                Group::Design,
+                Group::Budget,
+                Group::Caches,
+                Group::Predictors,
+            ],
+            Command::Migrate => &[],
+            Command::Estimate { .. } => &[
+                Group::Test,
+                Group::Workers,
                 Group::Caches,
                 Group::Predictor,
                 Group::Timing,

@@ -1,10 +1,10 @@
-ghost use Rattle.std.specs.Prelude.{◌≡◌, ◌≤◌, map, string_bytes};
+ghost use Rattle.std.specs.Prelude.{◌≡◌, ◌≤◌, map, string_bytes, IfSome};
 ghost use Rattle.hierarchy.specs.Config.{ArePlaces, IsCacheShape, IsConfig, IsTlbShape};
 ghost use Rattle.hierarchy.specs.Widths.{AreLatencies, AreWidths};
 ghost use Rattle.predictor.specs.Kind.{IsKind};
 ghost use Rattle.smarts_text.specs.Asked.{number_in};
 ghost use Rattle.smarts_text.specs.Keys.{IsUsual, key_of};
-ghost use Rattle.smarts_text.specs.Configured.{cache_in, config_in, kind_in, latencies_in, places_in, tlb_in, usual_cache, usual_kind, usual_tlb, widths_in};
+ghost use Rattle.smarts_text.specs.Configured.{cache_asked, cache_in, config_in, kind_asked, kind_in, latencies_in, places_in, tlb_asked, tlb_in, usual_cache, usual_kind, usual_tlb, widths_in};
 ghost use Rattle.smarts_text.specs.Keys as key_specs;
 
 use crate::asked::{number, wants_ruu};
@@ -38,13 +38,13 @@ fn usual_tlb(form: Form) -> Geometry
     }
 }
 
-fn usual_kind(form: Form) -> PredictorKind
+pub fn usual_kind(form: Form) -> PredictorKind
     requires { IsUsual form }
     ensures value { result ≡ usual_kind form }
     ensures kind { IsKind result }
 {
     match form {
-        Form::Kind(usual) => usual,
+        Form::Kind(usual) | Form::Kinds(usual) => usual,
         _ => PredictorKind {
             scheme: Scheme::Bimodal,
             bits: 4,
@@ -54,48 +54,60 @@ fn usual_kind(form: Form) -> PredictorKind
     }
 }
 
+/// What is said of a key that has caches.
+#[tactic(auto, unfolding(crate::specs::Configured::cache_asked))]
+pub fn asked_cache(words: &[String], prefix: &str, key: &Key) -> Option<Geometry>
+    ensures value { result ≡ cache_asked prefix.now (map string_bytes words.now) (key_of key.now) }
+    ensures shape { IfSome result IsCacheShape }
+{
+    read_cache(value_under(prefix, key.name, words)?).ok()
+}
+
+/// What is said of a key that has TLBs.
+#[tactic(auto, unfolding(crate::specs::Configured::tlb_asked))]
+pub fn asked_tlb(words: &[String], prefix: &str, key: &Key) -> Option<Geometry>
+    ensures value { result ≡ tlb_asked prefix.now (map string_bytes words.now) (key_of key.now) }
+    ensures shape { IfSome result IsTlbShape }
+{
+    read_tlb(value_under(prefix, key.name, words)?).ok()
+}
+
+/// What is said of a key that has predictors.
+#[tactic(auto, unfolding(crate::specs::Configured::kind_asked))]
+pub fn asked_kind(words: &[String], prefix: &str, key: &Key) -> Option<PredictorKind>
+    ensures value { result ≡ kind_asked prefix.now (map string_bytes words.now) (key_of key.now) }
+    ensures kind { IfSome result IsKind }
+{
+    read_kind(value_under(prefix, key.name, words)?).ok()
+}
+
 // The cache of a key that has caches.
-#[tactic(auto, unfolding(crate::specs::Configured::cache_in))]
 fn cache(words: &[String], prefix: &str, key: &Key) -> Geometry
     requires { IsUsual key.now.form }
     ensures value { result ≡ cache_in prefix.now (map string_bytes words.now) (key_of key.now) }
     ensures shape { IsCacheShape result }
 {
-    let usual = usual_cache(key.form);
-    let Some(text) = value_under(prefix, key.name, words) else {
-        return usual;
-    };
-    read_cache(text).unwrap_or(usual)
+    asked_cache(words, prefix, key).unwrap_or(usual_cache(key.form))
 }
 
-#[tactic(auto, unfolding(crate::specs::Configured::tlb_in))]
 fn tlb(words: &[String], prefix: &str, key: &Key) -> Geometry
     requires { IsUsual key.now.form }
     ensures value { result ≡ tlb_in prefix.now (map string_bytes words.now) (key_of key.now) }
     ensures shape { IsTlbShape result }
 {
-    let usual = usual_tlb(key.form);
-    let Some(text) = value_under(prefix, key.name, words) else {
-        return usual;
-    };
-    read_tlb(text).unwrap_or(usual)
+    asked_tlb(words, prefix, key).unwrap_or(usual_tlb(key.form))
 }
 
-#[tactic(auto, unfolding(crate::specs::Configured::kind_in))]
 fn kind(words: &[String], prefix: &str, key: &Key) -> PredictorKind
     requires { IsUsual key.now.form }
     ensures value { result ≡ kind_in prefix.now (map string_bytes words.now) (key_of key.now) }
     ensures kind { IsKind result }
 {
-    let usual = usual_kind(key.form);
-    let Some(text) = value_under(prefix, key.name, words) else {
-        return usual;
-    };
-    read_kind(text).unwrap_or(usual)
+    asked_kind(words, prefix, key).unwrap_or(usual_kind(key.form))
 }
 
 #[tactic(auto, unfolding(crate::specs::Configured::places_in))]
-fn places(words: &[String], prefix: &str) -> Places<Geometry>
+pub fn places(words: &[String], prefix: &str) -> Places<Geometry>
     ensures value { result ≡ places_in prefix.now (map string_bytes words.now) }
     ensures shapes { ArePlaces result }
 {
@@ -109,7 +121,7 @@ fn places(words: &[String], prefix: &str) -> Places<Geometry>
 }
 
 #[tactic(auto, unfolding(crate::specs::Configured::widths_in))]
-fn widths(words: &[String], prefix: &str) -> Widths
+pub fn widths(words: &[String], prefix: &str) -> Widths
     ensures value { result ≡ widths_in prefix.now (map string_bytes words.now) }
     ensures ranges { number_in prefix.now (map string_bytes words.now) key_specs.lsq_key ≤ number_in prefix.now (map string_bytes words.now) key_specs.ruu_key
         → AreWidths result }
@@ -134,7 +146,7 @@ fn widths(words: &[String], prefix: &str) -> Widths
 }
 
 #[tactic(auto, unfolding(crate::specs::Configured::latencies_in))]
-fn latencies(words: &[String], prefix: &str) -> Latencies
+pub fn latencies(words: &[String], prefix: &str) -> Latencies
     ensures value { result ≡ latencies_in prefix.now (map string_bytes words.now) }
     ensures ranges { AreLatencies result }
 {

@@ -2,11 +2,12 @@
 pub const HELP: &str = "\
 turbosmarts: cycles per instruction of RV32IM programs, by sampling
 
-usage: turbosmarts COMMAND [KEY=VALUE]... < IMAGE > OUTPUT
+usage: turbosmarts COMMAND [KEY=VALUE]... < INPUT > OUTPUT
        turbosmarts demo size=N [KEY=VALUE]... > OUTPUT
        turbosmarts --help | --version
 
-The image is an ELF executable for RV32IM. Keys come in any order, each once.
+The input of `sample`, `warm` and `run` is an image, an ELF executable for RV32IM; that of
+`estimate` and `migrate` is a library that `warm` wrote. Keys come in any order, each once.
 
 sample   measures units of the run until their mean is known well enough; writes a report
     unit=N           instructions in a unit, 16 to 10000 (default 1000)
@@ -47,6 +48,22 @@ demo     samples a program that is made from a number, and reads nothing
     size=N           turns of the program's loop, of 258 instructions each, 1 to 1000000 (required);
                      the program is drawn from the seed. All keys of sample
 
+warm     writes the library of the run: of each unit that may be measured, in the order of visits,
+         what is needed to time it without the program (a live-point)
+    unit warm every offset seed budget l1i l1d l2 itlb dtlb   as for sample. A library serves every
+                     processor whose structures have these lines, and no more sets or ways
+    predictor=K:B:T:D[,K:B:T:D]...   one to four different predictors (gshare:12:9:8)
+
+estimate  measures units of a run as its library has them until their mean is known well enough;
+         writes a report, the one of `sample` with the library's keys
+    min z error   as for sample
+    workers=N        how many work at once, 1 to 64 (1). The report is the same for every number
+  and all keys of the processor, as for sample. A cache, TLB or predictor that isn't given is the
+                     library's, of several predictors the first
+
+migrate  writes the library again, in the newest form: words that several points share stand once.
+         It has no keys
+
 run      runs the program to its end; writes what it wrote
     budget=N         the most instructions of the run, 1 to 68719476736 (1000000000)
 
@@ -64,8 +81,17 @@ The process ends with one of these statuses, and tells it on standard error:
        1 illegal   2 bad target   3 misaligned load   4 misaligned store   5 nothing is mapped there
        6 break   7 bad buffer of a write
   4  budget spent after N: the program had not ended
+  5  library: fault N at P
+       1 no library   2 of another version   3 the field at byte P is out of range
+       4 the bytes end at P, in the middle of a field   5 a record of point P breaks a rule
+       6 words of point P out of order   7 point P is not of the unit that is visited there
+       8 more bytes from P on   9 more than 1073741824 bytes
+       10 point P is of no run: it has a fault when it is run
+       11 shared pair P out of order   12 a run of shared words of point P is out of order
   6  design: fault N value V
        1 a run of V instructions has no whole unit   2 there are V units, more than 65536
+       3 the library would have V bytes, more than 1073741824
+       4 the library does not serve the processor: 0 l1i, 1 l1d, 2 l2, 3 itlb, 4 dtlb, 5 predictor
   7  read fault
   8  write fault after N: bytes that were written
   9  no memory

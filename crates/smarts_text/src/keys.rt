@@ -18,6 +18,8 @@ pub enum Form {
     Tlb(u8, u8),
     /// A predictor, `scheme:bits:target_log:depth`: the default.
     Kind(PredictorKind),
+    /// One to four predictors with commas between: the default, which is one.
+    Kinds(PredictorKind),
 }
 
 /// A group of keys, of which a command has every one or none.
@@ -29,8 +31,13 @@ pub enum Group {
     Budget,
     /// When the sample is large enough.
     Test,
+    /// How many workers there are.
+    Workers,
     Caches,
+    /// The predictor of a processor.
     Predictor,
+    /// Those that a library is made for.
+    Predictors,
     /// The machine that is timed, its widths and its latencies.
     Timing,
     /// The size of a generated program.
@@ -78,6 +85,8 @@ pub const Z: Key = key!("z", Test, Form::Number(1, 4000, 3000));
 
 pub const ERROR: Key = key!("error", Test, Form::Number(1, 5000, 300));
 
+pub const WORKERS: Key = key!("workers", Workers, Form::Number(1, 64, 1));
+
 pub const MACHINE: Key = key!("machine", Timing, Form::Machine(true));
 
 pub const L1I: Key = key!("l1i", Caches, Form::Cache(6, 6, 4));
@@ -98,6 +107,8 @@ const USUAL_KIND: PredictorKind = PredictorKind {
 };
 
 pub const PREDICTOR: Key = key!("predictor", Predictor, Form::Kind(USUAL_KIND));
+
+pub const PREDICTORS: Key = key!("predictor", Predictors, Form::Kinds(USUAL_KIND));
 
 pub const FETCH: Key = key!("fetch", Timing, Form::Number(1, 8, 4));
 
@@ -149,9 +160,10 @@ pub fn keys() -> &'static [Key]
     ensures { map key_of result.now ≡ keys }
 {
     &[
-        UNIT, WARM, EVERY, OFFSET, SEED, BUDGET, MIN, Z, ERROR, MACHINE, L1I, L1D, L2, ITLB, DTLB,
-        PREDICTOR, FETCH, DISPATCH, ISSUE, RETIRE, QUEUE, RUU, LSQ, PENALTY, ALUS, MULS, DIVS,
-        LOADS, STORES, BRANCHES, MULLAT, DIVLAT, L1LAT, FWDLAT, L2LAT, MEMLAT, TLBLAT, SIZE,
+        UNIT, WARM, EVERY, OFFSET, SEED, BUDGET, MIN, Z, ERROR, WORKERS, MACHINE, L1I, L1D, L2,
+        ITLB, DTLB, PREDICTOR, PREDICTORS, FETCH, DISPATCH, ISSUE, RETIRE, QUEUE, RUU, LSQ,
+        PENALTY, ALUS, MULS, DIVS, LOADS, STORES, BRANCHES, MULLAT, DIVLAT, L1LAT, FWDLAT, L2LAT,
+        MEMLAT, TLBLAT, SIZE,
     ]
 }
 

@@ -1,4 +1,5 @@
 ghost use Rattle.std.specs.Prelude.{◌≡◌, ◌≤◌, IfOk, IfSome};
+ghost use Rattle.std.specs.Option.{is_some};
 ghost use Rattle.hierarchy.specs.Config.{IsCacheShape, IsTlbShape};
 ghost use Rattle.predictor.specs.Kind.{IsKind};
 ghost use Rattle.smarts_text.specs.Shapes.{cache_read, cache_shape, kind_read, kind_within, line_log_of, scheme_and_three, scheme_of, sets_log_of, three_of, tlb_read, tlb_shape, two_of};
@@ -135,6 +136,13 @@ fn scheme_and_three(text: &str) -> Option<(Scheme, Three)>
     let (name, numbers) = parts(text, ':')?;
     let scheme = scheme(name)?;
     Some((scheme, three_in(numbers)?))
+}
+
+/// Whether the text is a scheme and three numbers, in range or not.
+pub fn is_kind(text: &str) -> bool
+    ensures { result ≡ is_some (scheme_and_three text.now) }
+{
+    scheme_and_three(text).is_some()
 }
 
 #[tactic(auto, unfolding(crate::specs::Shapes::kind_within))]

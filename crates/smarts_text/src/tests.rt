@@ -6,6 +6,8 @@ use confidence::{Sums, Test};
 use configured::config;
 use elf_image::ImageFault;
 use hierarchy::Config;
+use live_points::{Kinds, Records};
+use livepoint_format::LibraryFault;
 use ordered_fold::Ending;
 use processors::{least_config, most_config, usual_config};
 use rv_exec::{Trap, TrapKind};
@@ -31,7 +33,7 @@ fn expect_fault(
 ) -> Result<(), Fail> {
     let words = words(rt.alloc(), line)?;
     let fault = Refusal::Fault(WordFault { kind, place });
-    assert_eq!(rt; read_words(&words), Err(fault), "{line}");
+    assert_eq!(rt; read_words(&words).err(), Some(fault), "{line}");
     Ok(())
 }
 
@@ -41,9 +43,63 @@ fn expect_command(
     command: &Command,
 ) -> Result<(), Fail> {
     let words = words(rt.alloc(), line)?;
-    let answer = read_words(&words);
-    assert_eq!(rt; answer.as_ref().ok(), Some(command), "{line}");
+    match read_words(&words) {
+        Ok(found) => assert!(rt; are_same(&found, command), "{line}"),
+        Err(_) => return Err(Fail::new("words are refused")),
+    }
     Ok(())
+}
+
+fn are_same(one: &Command, other: &Command) -> bool {
+    match (one, other) {
+        (
+            Command::Sample {
+                design,
+                config,
+                test,
+            },
+            Command::Sample {
+                design: same_design,
+                config: same_config,
+                test: same_test,
+            },
+        ) => design == same_design && config == same_config && test == same_test,
+        (
+            Command::Demo {
+                size,
+                design,
+                config,
+                test,
+            },
+            Command::Demo {
+                size: same_size,
+                design: same_design,
+                config: same_config,
+                test: same_test,
+            },
+        ) => {
+            size == same_size && design == same_design && config == same_config && test == same_test
+        }
+        (
+            Command::Warm { design, records },
+            Command::Warm {
+                design: same_design,
+                records: same_records,
+            },
+        ) => {
+            design == same_design
+                && records.places == same_records.places
+                && records.kinds.as_slice() == same_records.kinds.as_slice()
+        }
+        (Command::Migrate, Command::Migrate) => true,
+        (
+            Command::Run { budget },
+            Command::Run {
+                budget: same_budget,
+            },
+        ) => budget == same_budget,
+        _ => false,
+    }
 }
 
 /// Words, and the kind and place of their first fault.
@@ -97,8 +153,8 @@ const REFUSED: [(&str, WordKind, u32); 40] = [
 #[test]
 fn names_the_first_fault(rt: HostRuntime) -> Result<(), Fail> {
     assert_eq!(rt;
-        read_words(&[]),
-        Err(Refusal::Fault(WordFault {
+        read_words(&[]).err(),
+        Some(Refusal::Fault(WordFault {
             kind: WordKind::NoCommand,
             place: 0
         }))
@@ -168,6 +224,48 @@ const REFUSED_PROCESSORS: [(&str, WordKind, u32); 44] = [
 #[test]
 fn names_faults_of_processors_and_sizes(rt: HostRuntime) -> Result<(), Fail> {
     for (line, kind, place) in REFUSED_PROCESSORS {
+        expect_fault(&rt, line, kind, place)?;
+    }
+    Ok(())
+}
+
+/// Words of `warm` and `migrate`, and the kind and place of their first fault.
+const REFUSED_LIBRARIES: [(&str, WordKind, u32); 14] = [
+    ("warm min=2", WordKind::UnknownKey, 1),
+    ("warm machine=ruu", WordKind::UnknownKey, 1),
+    ("warm unit=16 fetch=4", WordKind::UnknownKey, 2),
+    ("migrate unit=16", WordKind::UnknownKey, 1),
+    ("migrate x", WordKind::UnknownKey, 1),
+    ("warm predictor=", WordKind::BadValue, 1),
+    ("warm predictor=gshare:12:9:8,", WordKind::BadValue, 1),
+    ("warm predictor=,gshare:12:9:8", WordKind::BadValue, 1),
+    ("warm predictor=gshare:99:9:8,foo", WordKind::BadValue, 1),
+    (
+        "warm predictor=gshare:9:9:8,bimodal:9:9:8,gshare:8:9:8,gshare:7:9:8,gshare:6:9",
+        WordKind::BadValue,
+        1,
+    ),
+    (
+        "warm predictor=gshare:9:9:8,bimodal:9:9:8,gshare:8:9:8,gshare:7:9:8,gshare:6:9:8",
+        WordKind::OutOfRange,
+        1,
+    ),
+    (
+        "warm predictor=gshare:09:9:8,gshare:9:9:8",
+        WordKind::OutOfRange,
+        1,
+    ),
+    (
+        "warm predictor=bimodal:4:2:0,gshare:3:9:8",
+        WordKind::OutOfRange,
+        1,
+    ),
+    ("warm offset=100", WordKind::OffsetNotBelowEvery, 2),
+];
+
+#[test]
+fn names_faults_of_libraries(rt: HostRuntime) -> Result<(), Fail> {
+    for (line, kind, place) in REFUSED_LIBRARIES {
         expect_fault(&rt, line, kind, place)?;
     }
     Ok(())
@@ -276,6 +374,40 @@ fn reads_other_commands(rt: HostRuntime) -> Result<(), Fail> {
     Ok(())
 }
 
+#[test]
+fn reads_what_libraries_are_made_for(rt: HostRuntime) -> Result<(), Fail> {
+    expect_command(&rt, "migrate", &Command::Migrate)?;
+    let usual = usual_config()?;
+    let records = Records {
+        places: usual.places,
+        kinds: Kinds::one(usual.kind),
+    };
+    let warm = Command::Warm {
+        design: DESIGN,
+        records,
+    };
+    expect_command(&rt, "warm", &warm)?;
+    expect_command(&rt, "warm predictor=gshare:12:9:8 l2=64:512:8", &warm)?;
+    let least = least_config()?;
+    let mut kinds = Kinds::one(least.kind);
+    assert!(rt; kinds.add(usual.kind));
+    assert!(rt; kinds.add(most_config()?.kind));
+    let records = Records {
+        places: least.places,
+        kinds,
+    };
+    let warm = Command::Warm {
+        design: LEAST,
+        records,
+    };
+    expect_command(&rt, LEAST_RECORDS, &warm)
+}
+
+/// The least design, the smallest shapes, and three predictors.
+const LEAST_RECORDS: &str =
+    "warm unit=16 warm=0 every=1 offset=0 seed=0 budget=1 l1i=16:1:1 l1d=32:2:1 l2=64:4:1 itlb=8:1 \
+    dtlb=16:1 predictor=bimodal:4:2:0,gshare:12:9:8,gshare:14:10:16";
+
 // A key with the prefix goes before the key alone, and that before the default.
 #[test]
 fn reads_keys_with_a_prefix(rt: HostRuntime) -> Result<(), Fail> {
@@ -291,7 +423,7 @@ fn reads_keys_with_a_prefix(rt: HostRuntime) -> Result<(), Fail> {
 }
 
 /// Statuses, with the number and the line of each.
-const STATUSES: [(Status, u8, &str); 13] = [
+const STATUSES: [(Status, u8, &str); 18] = [
     (Status::Done, 0, ""),
     (
         Status::BadWords(WordFault {
@@ -341,6 +473,35 @@ const STATUSES: [(Status, u8, &str); 13] = [
         Status::BudgetSpent { budget: 1003 },
         4,
         "budget spent after 1003\n",
+    ),
+    (
+        Status::BadLibrary(LibraryFault::BadVersion),
+        5,
+        "library: fault 2 at 0\n",
+    ),
+    (
+        Status::BadLibrary(LibraryFault::TooLarge {
+            length: 1_073_741_825,
+        }),
+        5,
+        "library: fault 9 at 1073741825\n",
+    ),
+    (
+        Status::BadLibrary(LibraryFault::BadShared { index: 3 }),
+        5,
+        "library: fault 11 at 3\n",
+    ),
+    (
+        Status::BadLibrary(LibraryFault::BadRuns { point: 7 }),
+        5,
+        "library: fault 12 at 7\n",
+    ),
+    (
+        Status::BadDesign(DesignFault::LibraryTooLarge {
+            length: 5_000_000_000,
+        }),
+        6,
+        "design: fault 3 value 5000000000\n",
     ),
     (
         Status::BadDesign(DesignFault::NoUnits { length: 15 }),

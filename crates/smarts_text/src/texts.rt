@@ -1,10 +1,12 @@
-ghost use Rattle.std.specs.Prelude.{◌≡◌, ◌≤◌, length};
+ghost use Rattle.std.specs.Prelude.{◌≡◌, ◌<◌, ◌≤◌, length};
+ghost use Rattle.smarts_text.specs.Status.{library_number, library_place};
 ghost use Rattle.smarts_text.specs.Texts.{HasWritten, exit_line, fault_line};
 
 use crate::line::Line;
 use crate::read::WordFault;
 use crate::status::{DesignFault, Status};
 use elf_image::ImageFault;
+use livepoint_format::LibraryFault;
 use rv_exec::Trap;
 
 #[tactic(auto, unfolding(crate::specs::Texts::fault_line))]
@@ -57,6 +59,42 @@ fn budget_line(budget: u64) -> Line
     line
 }
 
+// The number of the fault, and where the library has it.
+fn number_and_place(fault: LibraryFault) -> (u8, u64)
+    ensures number { result.0 ≡ library_number fault }
+    ensures few { result.0 < 100 }
+    ensures place { result.1 ≡ library_place fault }
+{
+    match fault {
+        LibraryFault::BadMagic => (1, 0),
+        LibraryFault::BadVersion => (2, 0),
+        LibraryFault::BadField { at } => (3, at),
+        LibraryFault::Truncated { at } => (4, at),
+        LibraryFault::BadRecord { point, .. } => (5, u64::from(point)),
+        LibraryFault::BadWords { point } => (6, u64::from(point)),
+        LibraryFault::BadOrder { point } => (7, u64::from(point)),
+        LibraryFault::TrailingBytes { at } => (8, at),
+        LibraryFault::TooLarge { length } => (9, length),
+        LibraryFault::BadPoint { point, .. } => (10, u64::from(point)),
+        LibraryFault::BadShared { index } => (11, u64::from(index)),
+        LibraryFault::BadRuns { point } => (12, u64::from(point)),
+    }
+}
+
+#[tactic(auto, unfolding(crate::specs::Texts::fault_line))]
+fn library_line(fault: LibraryFault) -> Line
+    ensures { result ≡ fault_line (Status.BadLibrary fault) }
+{
+    let (number, place) = number_and_place(fault);
+    let mut line = Line::new();
+    line.push(b"library: fault ");
+    line.push_fault(number);
+    line.push(b" at ");
+    line.push_u64(place);
+    line.push(b"\n");
+    line
+}
+
 #[tactic(auto, unfolding(crate::specs::Texts::fault_line))]
 fn design_line(fault: DesignFault) -> Line
     ensures { result ≡ fault_line (Status.BadDesign fault) }
@@ -64,6 +102,8 @@ fn design_line(fault: DesignFault) -> Line
     let (number, value) = match fault {
         DesignFault::NoUnits { length } => (1, length),
         DesignFault::TooMany { count } => (2, count),
+        DesignFault::LibraryTooLarge { length } => (3, length),
+        DesignFault::Beyond { structure } => (4, u64::from(structure)),
     };
     let mut line = Line::new();
     line.push(b"design: fault ");
@@ -104,6 +144,7 @@ fn line_on(status: &Status) -> Line
         Status::BadImage(fault) => image_line(fault),
         Status::Trapped { at, trap } => trap_line(at, trap),
         Status::BudgetSpent { budget } => budget_line(budget),
+        Status::BadLibrary(fault) => library_line(fault),
         Status::BadDesign(fault) => design_line(fault),
         Status::ReadFault => fixed(b"read fault\n"),
         Status::WriteFault { taken } => write_line(taken),

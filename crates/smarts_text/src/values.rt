@@ -2,6 +2,7 @@ ghost use Rattle.std.specs.Prelude.{◌≡◌};
 ghost use Rattle.smarts_text.specs.Values.{machine_of, machine_read, misread};
 
 use crate::keys::Form;
+use crate::kinds::read_kinds;
 use crate::number::read_number;
 use crate::read::WordKind;
 use crate::shapes::{read_cache, read_kind, read_tlb};
@@ -29,5 +30,6 @@ pub fn misread(form: Form, text: &str) -> Option<WordKind>
         Form::Cache(..) => read_cache(text).err(),
         Form::Tlb(..) => read_tlb(text).err(),
         Form::Kind(_) => read_kind(text).err(),
+        Form::Kinds(_) => read_kinds(text).err(),
     }
 }

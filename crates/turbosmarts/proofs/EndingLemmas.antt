@@ -4,6 +4,7 @@ use Rattle.std.proofs.lemmas.List.{take_all}
 use mathlib.Core.Path.{fun_ext}
 use Rattle.smarts_io.specs.Bytes.{Gives, Takes, cut_past}
 use Rattle.smarts_io.specs.Causes.{Rose}
+use Rattle.smarts_io.specs.declared.reading.ReadError.{ReadError}
 use Rattle.smarts_io.proofs.Pieces.{takes_none}
 use Rattle.smarts_text.specs.declared.command.Command.{Command}
 use Rattle.smarts_text.specs.declared.read.WordFault.{WordFault}
@@ -15,6 +16,9 @@ use Rattle.turbosmarts.specs.Answer.{Answer, answer, words_answer, command_answe
 use Rattle.turbosmarts.specs.declared.ending.Exit.{Exit}
 use Rattle.turbosmarts.specs.declared.fault.InputFault.{InputFault}
 use Rattle.turbosmarts.specs.Ending.{Change, EndsAs, GivesAnswer, HasAnswered, IsAnswered, IsDetermined, IsFault, IsUnwritten, end_line}
+use Rattle.turbosmarts.specs.declared.stop.Stop.{Stop}
+use Rattle.turbosmarts.specs.declared.stop.Stop.TheVariants as stops
+use Rattle.turbosmarts.specs.Served.{IsAnswer, IsRead, IsServed}
 use Rattle.turbosmarts.specs.Stages.{Written}
 
 -- what holds of the input that was answered holds of the one that the source told
@@ -30,6 +34,7 @@ determined_answered (statuses.BadWords fault) d = tt
 determined_answered (statuses.BadImage fault) d = tt
 determined_answered (statuses.Trapped at trap) d = tt
 determined_answered (statuses.BudgetSpent budget) d = tt
+determined_answered (statuses.BadLibrary fault) d = tt
 determined_answered (statuses.BadDesign fault) d = tt
 determined_answered statuses.ReadFault d = d
 determined_answered (statuses.WriteFault taken) d = tt
@@ -96,39 +101,62 @@ read_answer command input read limit is cut =
     ap (λ (limit : Option ℕ). done_or_refused (read_within limit input) (command_result command (read_within limit input))) is
     ∙ ap (λ (read : List ℕ). done_or_refused read (command_result command read)) cut
 
--- a call that gave the answer to an input of which it read so much
-pub ends_served :
-    (expected : List ℕ → Answer) (asks : Type 0) (source sink : Change) (result : Status) (told input read : List ℕ)
-    (r : Result Written InputFault)
-    → expected input ≡ done_or_refused read r
-    → IfSome source.before (λ bytes. input ≡ bytes) → Gives source.before read source.after
-    → GivesAnswer (done_or_refused read r) sink result
-    → (result ≡ statuses.Done → told ≡ (done_or_refused read r).lines)
-    → (result ≡ statuses.ReadFault → ⊥)
-    → ((taken : ℕ) → result ≡ statuses.WriteFault taken → Rose sink.faults_before sink.faults_after)
-    → (IsUnwritten result → sink.after ≡ sink.before)
-    → ((asks → ⊥) → source.after ≡ source.before)
-    → ((asks → ⊥) → source.faults_after ≡ source.faults_before)
-    → (IsFault result → told ≡ fault_line result)
-    → EndsAs expected asks source sink result told
-ends_served expected asks source sink result told input read r same told_input given gives lines no_read cause nothing unread count fault =
-    let same_read : (expected input).read ≡ read = ap (λ (a : Answer). a.read) same ∙ read_is read r in
+-- an input of which a command reads so much, and what it answers to it
+record IsInput (command : Command) (before after : Option (List ℕ)) (read : List ℕ) : Type 0 where
+  pub input : List ℕ
+  pub told : IfSome before (λ bytes. input ≡ bytes)
+  pub gives : Gives before read after
+  pub answer : command_answer command input ≡ done_or_refused read (command_result command read)
+
+input_within :
+    (command : Command) (limit : Option ℕ) (before after : Option (List ℕ)) (read : List ℕ) → input_limit command ≡ limit
+    → IsRead limit before after read → IsInput command before after read
+input_within command None before after read is was = record {
+  input = some_input before;
+  told = some_told before;
+  gives = subst (λ (bytes : List ℕ). Gives before bytes after) (sym was.0) (gives_nothing before after was.1);
+  answer = subst (λ (bytes : List ℕ). command_answer command (some_input before) ≡ done_or_refused bytes (command_result command bytes)) (sym was.0)
+      (unread_answer command (some_input before) is);
+}
+input_within command (Some limit) before after read is was =
+    let input = was_read before limit read was.1 was.2 in
     record {
-      answered = λ a. record {
-        input = input;
-        told = told_input;
-        read = subst (λ (b : List ℕ). Gives source.before b source.after) (sym same_read) given;
-        gives = subst (λ (a : Answer). GivesAnswer a sink result) (sym same) gives;
-        lines = λ e. lines e ∙ sym (ap (λ (a : Answer). a.lines) same);
-      };
-      read_asked = λ e. absurd (no_read e);
-      read_cause = λ e. absurd (no_read e);
-      write_cause = cause;
-      unwritten = nothing;
-      unread = unread;
-      unread_count = count;
-      told_fault = fault;
+      input = input.input;
+      told = input.told_is;
+      gives = was.0;
+      answer = read_answer command input.input read limit is input.cut;
     }
+
+answered_here :
+    (command : Command) (source sink : Change) (status : Status) (told read : List ℕ)
+    → IsRead (input_limit command) source.before source.after read
+    → GivesAnswer (done_or_refused read (command_result command read)) sink status
+    → (status ≡ statuses.Done → told ≡ (done_or_refused read (command_result command read)).lines)
+    → HasAnswered (command_answer command) source sink (λ lines. told ≡ lines) status
+answered_here command source sink status told read was gives lines =
+    let is = input_within command (input_limit command) source.before source.after read refl was in
+    record {
+      input = is.input;
+      told = is.told;
+      read = subst (λ (bytes : List ℕ). Gives source.before bytes source.after)
+          (sym (ap (λ (a : Answer). a.read) is.answer ∙ read_is read (command_result command read))) is.gives;
+      gives = subst (λ (a : Answer). GivesAnswer a sink status) (sym is.answer) gives;
+      lines = λ e. lines e ∙ sym (ap (λ (a : Answer). a.lines) is.answer);
+    }
+
+-- a call that gave what a command answers
+pub answered_given :
+    (command : Command) (source sink : Change) (result : Result Written Stop) (status : Status) (told : List ℕ)
+    → IsServed result (input_limit command) (command_result command) source.before source.after
+    → ((read : List ℕ) (expected : Result Written InputFault) → IsAnswer result expected → GivesAnswer (done_or_refused read expected) sink status)
+    → ((read : List ℕ) (expected : Result Written InputFault) → IsAnswer result expected → status ≡ statuses.Done → told ≡ (done_or_refused read expected).lines)
+    → ((error : ReadError) → result ≡ Err (stops.Read error) → ⊥)
+    → HasAnswered (command_answer command) source sink (λ lines. told ≡ lines) status
+answered_given command source sink (Ok written) status told served gives lines no_error =
+    answered_here command source sink status told served.0 served.1 (gives served.0 _ served.2) (lines served.0 _ served.2)
+answered_given command source sink (Err (stops.Fault fault)) status told served gives lines no_error =
+    answered_here command source sink status told served.0 served.1 (gives served.0 _ served.2) (lines served.0 _ served.2)
+answered_given command source sink (Err (stops.Read error)) status told served gives lines no_error = absurd (no_error error refl)
 
 -- where the words are accepted, the answer to them is that of their command
 pub ends_accepted :
@@ -274,7 +302,3 @@ pub told_lines :
     → IfSome source.before (λ input. tells (expected input).lines)
 told_lines expected source sink tells result has e =
     of_told (λ input. tells (expected input).lines) source.before has.input has.told (has.lines e)
-
-pub reads_some : (limit : Option ℕ) (most : ℕ) → limit ≡ Some most → IsSome limit
-reads_some (Some n) most is = refl
-reads_some None most is = cc

@@ -1,10 +1,13 @@
 pub mod BudgetLemmas
 pub mod EndingLemmas
+pub mod EstimateLemmas
 pub mod FoldingLemmas
 pub mod IsMeasuringLemmas
 pub mod IsPartLemmas
+pub mod LibraryLemmas
 pub mod OutOfOrderLemmas
 pub mod ProcessorLemmas
 pub mod SampleLemmas
 pub mod ScalarLemmas
+pub mod SharingLemmas
 pub mod TellingLemmas

@@ -2,7 +2,7 @@
 use Rattle.std.specs.Prelude.{ℕ, List, [], Option, Some, None, IsSome, Result, Ok, Err}
 use Rattle.smarts_io.specs.Bytes.{cut_past}
 use Rattle.smarts_text.specs.declared.command.Command.{Command}
-use Rattle.smarts_text.specs.declared.command.Command.TheVariants.{Sample, Demo, Run}
+use Rattle.smarts_text.specs.declared.command.Command.TheVariants.{Sample, Demo, Warm, Migrate, Estimate, Run}
 use Rattle.smarts_text.specs.declared.read.WordFault.{WordFault}
 use Rattle.smarts_text.specs.declared.status.Status.{Status}
 use Rattle.smarts_text.specs.declared.status.Status.TheVariants.{Done, BadWords}
@@ -11,10 +11,13 @@ use Rattle.smarts_text.specs.Texts.{exit_line}
 use Rattle.turbosmarts.specs.declared.ending.Exit.{Exit}
 use Rattle.turbosmarts.specs.declared.fault.InputFault.{InputFault}
 use Rattle.turbosmarts.specs.commands.Demo.{demo_result}
+use Rattle.turbosmarts.specs.commands.Estimate.{estimate_result}
+use Rattle.turbosmarts.specs.commands.Migrate.{migrate_result}
 use Rattle.turbosmarts.specs.commands.Run.{run_result}
 use Rattle.turbosmarts.specs.commands.Sample.{sample_result}
+use Rattle.turbosmarts.specs.commands.Warm.{warm_result}
 use Rattle.turbosmarts.specs.Fault.{status_of}
-use Rattle.turbosmarts.specs.Stages.{Written}
+use Rattle.turbosmarts.specs.Stages.{Written, library_limit}
 
 -- the largest image, in bytes
 abbrev pub image_limit : ℕ
@@ -24,6 +27,9 @@ image_limit = 67_108_864
 abbrev pub input_limit : Command → Option ℕ
 input_limit (Sample design config test) = Some image_limit
 input_limit (Demo size design config test) = None
+input_limit (Warm design records) = Some image_limit
+input_limit Migrate = Some library_limit
+input_limit (Estimate asked test workers) = Some library_limit
 input_limit (Run budget) = Some image_limit
 
 -- what is read of an input: all of it, up to one byte more than the limit
@@ -40,6 +46,9 @@ AsksForInput (Err fault) = ⊥
 abbrev pub command_result : Command → List ℕ → Result Written InputFault
 command_result (Sample design config test) read = sample_result design config test read
 command_result (Demo size design config test) read = demo_result size design config test
+command_result (Warm design records) read = warm_result design records read
+command_result Migrate read = migrate_result read
+command_result (Estimate asked test workers) read = estimate_result asked test read
 command_result (Run budget) read = run_result budget read
 
 -- what a call reads of its input, the status that it ends with, and what it writes and tells where it is done

@@ -6,6 +6,7 @@ use Rattle.turbosmarts.specs.declared.fault.InputFault.TheVariants as faults
 
 abbrev pub status_of : InputFault → Status
 status_of (faults.BadImage fault) = statuses.BadImage fault
+status_of (faults.BadLibrary fault) = statuses.BadLibrary fault
 status_of (faults.Trapped at trap) = statuses.Trapped at trap
 status_of (faults.BudgetSpent budget) = statuses.BudgetSpent budget
 status_of (faults.BadDesign fault) = statuses.BadDesign fault

@@ -7,5 +7,7 @@ pub mod Measuring
 pub mod OutOfOrder
 pub mod Processor
 pub mod Scalar
+pub mod Served
+pub mod Sharing
 pub mod Stages
 pub mod Telling

@@ -1,9 +1,10 @@
 -- What a processor has been shown of a run, and what it can tell of it.
-use Rattle.std.specs.Prelude.{◌≡◌, ◌≤◌, ◌+◌, ℕ, List, [], drop, length}
+use Rattle.std.specs.Prelude.{◌≡◌, ◌≤◌, ◌+◌, ◌++◌, ℕ, List, [], ◌∷◌, drop, length}
 use Rattle.hierarchy.specs.declared.config.Config.{Config}
 use Rattle.hierarchy.specs.declared.marked.Marked.{Marked}
 use Rattle.hierarchy.specs.Trace.{marks}
 use Rattle.hierarchy.specs.Warming.{warmed}
+use Rattle.rv_exec.specs.Event.{IsWellFormed}
 use Rattle.rv_exec.specs.Runs.{run_of}
 use Rattle.rv_exec.specs.declared.event.Event.{Event}
 use Rattle.rv_exec.specs.Machine.{State}
@@ -22,6 +23,11 @@ marks_of config events = marks config.latencies (warmed config.places config.kin
 unfoldable pub window_cycles : Config → List Event → Window → ℕ
 window_cycles config events window =
     cycles_of config (drop window.start (marks_of config events)) window.skip
+
+-- what was shown, and then this instruction, is what is now shown
+abbrev pub IsShownMore : (ℕ → List Event → Type 0) → Event → (ℕ → List Event → Type 0) → Type 0
+IsShownMore shown event now_shown =
+    IsWellFormed event → (begun : ℕ) (es : List Event) → shown begun es → now_shown begun (es ++ event ∷ [])
 
 -- the window ends with the last of these instructions, and its unit begins behind so many of them
 pub record IsAtEnd (window : Window) (begun : ℕ) (events : List Event) : Type 0 where

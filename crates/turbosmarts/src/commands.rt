@@ -1,50 +1,76 @@
 //! What each command answers to its input, a file a command.
 
-ghost use Rattle.std.specs.Prelude.{◌≡◌};
-ghost use Rattle.smarts_base.specs.Outcome.{Answers};
+ghost use Rattle.std.specs.Prelude.{◌≡◌, ◌≤◌, IsSome, Err};
+ghost use Rattle.smarts_io.specs.Causes.{Rose};
 ghost use Rattle.smarts_text.specs.Command.{IsSound};
 ghost use Rattle.turbosmarts.specs.Answer.{command_result, input_limit};
+ghost use Rattle.turbosmarts.specs.Served.{IsServed};
 
 mod demo;
+mod estimate;
+mod migrate;
 mod run;
 mod sample;
+mod warm;
 
-use crate::fault::InputFault;
+use crate::stages::LIBRARY_LIMIT;
+use crate::stop::Stop;
 use crate::written::Written;
-use smarts_base::Refusal;
+use smarts_base::Gate;
+use smarts_io::{ReadError, Source, read_all};
 use smarts_text::Command;
 use std::alloc::Global;
+use std::thread::Threads;
 
 /// The largest image, in bytes.
 const IMAGE_LIMIT: usize = 67_108_864;
 
-/// The most bytes of an input that the command takes, where it reads one.
-pub fn input_limit(command: &Command) -> Option<usize>
-    ensures { result ≡ input_limit command.now }
-{
-    match command {
-        Command::Sample { .. } | Command::Run { .. } => Some(IMAGE_LIMIT),
-        Command::Demo { .. } => None,
-    }
-}
-
-/// What the command writes that has read so much, or the first fault.
-pub fn answer(alloc: Global, command: &Command, read: &[u8]) -> Result<Written, Refusal<InputFault>>
+/// Reads what the command takes of its input, and answers what it writes.
+pub fn answer<R: Threads + Sync, S: Source, G: Gate + Sync>(
+    rt: &R,
+    alloc: Global,
+    command: &Command,
+    source: &mut S,
+    gate: &G,
+) -> Result<Written, Stop>
     requires { IsSound command.now }
-    ensures { Answers (λ written. written) result (command_result command.now read.now) }
+    ensures served { IsServed result (input_limit command.now) (command_result command.now) (S.rest source.old) (S.rest source.new) }
+    ensures asked { result ≡ Err (Stop.Read ReadError.Failed) → IsSome (input_limit command.now) }
+    ensures failed { result ≡ Err (Stop.Read ReadError.Failed) → Rose (S.faults source.old) (S.faults source.new) }
+    ensures unread { (IsSome (input_limit command.now) → ⊥) → S.rest source.new ≡ S.rest source.old }
+    ensures unread_count { (IsSome (input_limit command.now) → ⊥) → S.faults source.new ≡ S.faults source.old }
 {
     match command {
         Command::Sample {
             design,
             config,
             test,
-        } => sample::answer(alloc, design, config, test, read),
+        } => {
+            let image = read_all(alloc, source, IMAGE_LIMIT)?;
+            Ok(sample::answer(alloc, design, config, test, &image)?)
+        }
         Command::Demo {
             size,
             design,
             config,
             test,
-        } => demo::answer(alloc, *size, design, config, test),
-        Command::Run { budget } => run::answer(alloc, *budget, read),
+        } => Ok(demo::answer(alloc, *size, design, config, test)?),
+        Command::Warm { design, records } => {
+            let image = read_all(alloc, source, IMAGE_LIMIT)?;
+            Ok(warm::answer(alloc, design, records, &image)?)
+        }
+        Command::Migrate => {
+            let library = read_all(alloc, source, LIBRARY_LIMIT)?;
+            Ok(migrate::answer(alloc, &library)?)
+        }
+        Command::Estimate {
+            asked,
+            test,
+            workers,
+        } => estimate::answer(rt, alloc, asked, test, *workers, source, gate),
+        Command::Run { budget } => {
+            let image = read_all(alloc, source, IMAGE_LIMIT)?;
+            Ok(run::answer(alloc, *budget, &image)?)
+        }
     }
 }

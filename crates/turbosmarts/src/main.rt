@@ -13,12 +13,14 @@ mod processor;
 mod scalar;
 mod serving;
 mod stages;
+mod stop;
 mod telling;
 #[cfg(test)]
 mod tests;
 mod top;
 mod written;
 
+use smarts_base::OpenGate;
 use smarts_io::{ErrorSink, InputSource, OutputSink, write_all};
 use smarts_text::{HELP, Status, WordFault, WordKind};
 use std::process::ExitCode;
@@ -46,7 +48,15 @@ fn main(rt: HostRuntime) -> ExitCode {
             },
             None => {
                 let mut source = InputSource::new(rt.stdin());
-                turbosmarts(rt.alloc(), &words, &mut source, &mut sink, &mut lines)
+                turbosmarts(
+                    &rt,
+                    rt.alloc(),
+                    &words,
+                    &mut source,
+                    &mut sink,
+                    &mut lines,
+                    &OpenGate,
+                )
             }
         },
         Err(status) => tell_fault(&mut lines, status),

@@ -1,4 +1,4 @@
-ghost use Rattle.std.specs.Prelude.{◌≡◌, ◌≤◌, ◌<◌, ◌+◌, ℕ, None, [], IfOk, length};
+ghost use Rattle.std.specs.Prelude.{◌≡◌, ◌≤◌, ◌<◌, ◌+◌, ℕ, None, [], IfOk, OnOk, length};
 ghost use Rattle.hierarchy.specs.Config.{IsConfig};
 ghost use Rattle.rv_machine.specs.declared.outcome.Outcome.TheVariants.{Exited};
 ghost use Rattle.rv_machine.specs.Machine.{Machine};
@@ -94,15 +94,15 @@ pub fn measure<P: Processor>(
 fn run_part<P: Processor>(whole: &mut Whole, len: u32, processor: &mut P) -> Result<Part, NoMemory>
     requires running { whole.old.state.exit ≡ None }
     requires config { IsConfig (P.config processor.old) }
-    ensures config { P.config processor.new ≡ P.config processor.old }
-    ensures longest { P.longest processor.new ≡ P.longest processor.old }
+    ensures config { OnOk result (P.config processor.new ≡ P.config processor.old) }
+    ensures longest { OnOk result (P.longest processor.new ≡ P.longest processor.old) }
     ensures part { (start : Machine) (at begun : ℕ)
         → HasCome (λ n. P.shown processor.old begun (events_to start.state n)) start at whole.old
         → IfOk result (IsPart (λ n. P.shown processor.new begun (events_to start.state n)) start at len whole.new) }
 {
     for done in 0..len {
-        let event = match whole.advance() {
-            Ok(event) => event,
+        match whole.advance_watched(processor) {
+            Ok(()) => {}
             Err(MachineFault::Trap(trap)) => {
                 return Ok(Part {
                     ran: done,
@@ -110,8 +110,7 @@ fn run_part<P: Processor>(whole: &mut Whole, len: u32, processor: &mut P) -> Res
                 });
             }
             Err(MachineFault::NoMemory) => return Err(NoMemory),
-        };
-        processor.see(&event);
+        }
         if let Some(code) = whole.core().exit {
             return Ok(Part {
                 ran: done + 1,

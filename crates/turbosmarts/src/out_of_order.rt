@@ -1,12 +1,13 @@
 ghost use Rattle.std.specs.Prelude.{◌≡◌, ◌≤◌, drop, true, [], IfOk};
 ghost use Rattle.hierarchy.specs.Config.{IsConfig};
 ghost use Rattle.turbosmarts.specs.OutOfOrder.{HasMarked};
+ghost use Rattle.turbosmarts.specs.Processor.{IsShownMore};
 
 use crate::processor::Processor;
 use circular_buffer::HeapCircularBuffer;
 use hierarchy::{Config, Marked, State};
 use ruu_timing::{Ruu, Trace};
-use rv_exec::Event;
+use rv_exec::{Event, Watch};
 use sample_design::Window;
 use smarts_base::NoMemory;
 use std::alloc::Global;
@@ -61,6 +62,24 @@ impl<'a> OutOfOrder<'a> {
     }
 }
 
+impl<'a> Watch for OutOfOrder<'a> {
+    ghost sees = { λ before event after. (after.config.now ≡ before.config.now)
+        × (after.latest.capacity ≡ before.latest.capacity)
+        × IsShownMore
+        (λ begun es. HasMarked before.config.now before.ruu.widths before.state before.latest.capacity before.latest.items es)
+        event
+        (λ begun es. HasMarked after.config.now after.ruu.widths after.state after.latest.capacity after.latest.items es) };
+
+    ghost sound = { λ p. IsConfig p.config.now };
+
+    // The step calls it once an instruction, and what isn't used of the event isn't made.
+    #[inline(always)]
+    fn see(&mut self, event: &Event) {
+        let mark = self.state.annotate(self.config, event);
+        self.latest.push_back(mark);
+    }
+}
+
 impl<'a> Processor for OutOfOrder<'a> {
     ghost config = { λ p. p.config.now };
 
@@ -70,11 +89,6 @@ impl<'a> Processor for OutOfOrder<'a> {
 
     fn begin_unit(&mut self) {}
 
-    fn see(&mut self, event: &Event) {
-        let mark = self.state.annotate(self.config, event);
-        self.latest.push_back(mark);
-    }
-
     fn cycles(&mut self, window: &Window) -> u32 {
         let from = self.latest.len() - window.len as usize;
         let trace = Rest {
@@ -83,4 +97,8 @@ impl<'a> Processor for OutOfOrder<'a> {
         };
         self.ruu.time(&trace, window.skip as usize) as u32
     }
+
+    ghost can_watch = { λ p config. config };
+
+    ghost is_shown = { λ before event after saw. saw };
 }

@@ -1,17 +1,16 @@
-ghost use Rattle.std.specs.Prelude.{◌≡◌, ℕ, List, ◌++◌, [], ◌∷◌, length};
+ghost use Rattle.std.specs.Prelude.{◌≡◌, ℕ, List, length};
 ghost use Rattle.confidence.specs.Sums.{IsCycles};
 ghost use Rattle.hierarchy.specs.declared.config.Config.{Config as ConfigValue};
 ghost use Rattle.hierarchy.specs.Config.{IsConfig};
 ghost use Rattle.rv_exec.specs.declared.event.Event.{Event as EventValue};
-ghost use Rattle.rv_exec.specs.Event.{IsWellFormed};
-ghost use Rattle.turbosmarts.specs.Processor.{CanTell, IsAtEnd, window_cycles};
+ghost use Rattle.turbosmarts.specs.Processor.{CanTell, IsAtEnd, IsShownMore, window_cycles};
 
-use rv_exec::Event;
+use rv_exec::Watch;
 use sample_design::Window;
 
-/// A processor that is shown a run, one instruction after the other, and can tell the cycles of a
+/// A processor that watches a run, one instruction after the other, and can tell the cycles of a
 /// unit at the unit's end.
-pub trait Processor {
+pub trait Processor: Watch {
     /// What it is built from.
     ghost config: { Self → ConfigValue };
 
@@ -28,14 +27,6 @@ pub trait Processor {
         ensures longest { longest self.new ≡ longest self.old }
         ensures shown { (begun : ℕ) (es : List EventValue) → shown self.old begun es → shown self.new (length es) es };
 
-    /// Shows one instruction.
-    fn see(&mut self, event: &Event)
-        requires config { IsConfig (config self.old) }
-        requires event { IsWellFormed event.now }
-        ensures config { config self.new ≡ config self.old }
-        ensures longest { longest self.new ≡ longest self.old }
-        ensures shown { (begun : ℕ) (es : List EventValue) → shown self.old begun es → shown self.new begun (es ++ event.now ∷ []) };
-
     /// The cycles of the unit that has just ended, by its window.
     fn cycles(&mut self, window: &Window) -> u32
         requires config { IsConfig (config self.old) }
@@ -45,4 +36,12 @@ pub trait Processor {
         ensures shown { (begun : ℕ) (es : List EventValue) → shown self.old begun es → shown self.new begun es }
         ensures value { (begun : ℕ) (es : List EventValue) → shown self.old begun es → IsAtEnd window.now begun es → result ≡ window_cycles (config self.old) es window.now }
         ensures range { IsCycles result };
+
+    /// It can watch wherever it is built from a good configuration.
+    ghost can_watch: { (p : Self) → IsConfig (config p) → Self.sound p };
+
+    /// What it sees is shown to it.
+    ghost is_shown: { (before : Self) (event : EventValue) (after : Self) → Self.sees before event after
+        → (config after ≡ config before) × (longest after ≡ longest before)
+        × IsShownMore (shown before) event (shown after) };
 }

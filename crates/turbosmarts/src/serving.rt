@@ -1,26 +1,29 @@
-ghost use Rattle.std.specs.Prelude.{◌≡◌, ℕ, List, IsSome, Result};
-ghost use Rattle.smarts_base.specs.Outcome.{Answers};
+ghost use Rattle.std.specs.Prelude.{◌≡◌, ℕ, List, IsSome, Result, Err};
 ghost use Rattle.smarts_io.specs.Causes.{Rose};
+ghost use Rattle.smarts_io.specs.declared.reading.ReadError.{ReadError as ReadErrorValue};
 ghost use Rattle.smarts_text.specs.Command.{IsSound};
 ghost use Rattle.smarts_text.specs.Texts.{fault_line};
 ghost use Rattle.turbosmarts.specs.declared.fault.InputFault.{InputFault as InputFaultValue};
 ghost use Rattle.turbosmarts.specs.Answer.{command_answer, done_or_refused, input_limit};
-ghost use Rattle.turbosmarts.specs.Ending.{EndsAs, GivesAnswer, IsBadWords, IsFault, IsUnwritten, end_line};
+ghost use Rattle.turbosmarts.specs.Ending.{EndsAs, GivesAnswer, IsAnswered, IsBadWords, IsFault, IsUnwritten, end_line};
+ghost use Rattle.turbosmarts.specs.Served.{IsAnswer};
 ghost use Rattle.turbosmarts.specs.Stages.{Written as WrittenValue};
 
-use crate::commands::{answer, input_limit};
+use crate::commands::answer;
 use crate::ending::End;
-use crate::fault::{InputFault, status_of};
+use crate::fault::status_of;
+use crate::stop::Stop;
 use crate::written::Written;
-use smarts_base::Refusal;
-use smarts_io::{ReadError, Sink, Source, read_all, write_all};
+use smarts_base::Gate;
+use smarts_io::{ReadError, Sink, Source, write_all};
 use smarts_text::{Command, Status};
 use std::alloc::Global;
+use std::thread::Threads;
 
-// Writes an answer, or names the fault that there is in its place.
-fn give<K: Sink>(answer: Result<Written, Refusal<InputFault>>, sink: &mut K) -> End
+// Writes an answer, or names why there is none.
+fn give<K: Sink>(answer: Result<Written, Stop>, sink: &mut K) -> End
     ensures gives { (read : List ℕ) (expected : Result WrittenValue InputFaultValue)
-        → Answers (λ written. written) answer expected
+        → IsAnswer answer expected
         → GivesAnswer (done_or_refused read expected)
         (record {
           before = K.taken sink.old;
@@ -30,9 +33,10 @@ fn give<K: Sink>(answer: Result<Written, Refusal<InputFault>>, sink: &mut K) -> 
         })
         result.status }
     ensures lines { (read : List ℕ) (expected : Result WrittenValue InputFaultValue)
-        → Answers (λ written. written) answer expected
+        → IsAnswer answer expected
         → result.status ≡ Status.Done → end_line result.status result.exit ≡ (done_or_refused read expected).lines }
-    ensures no_read { result.status ≡ Status.ReadFault → ⊥ }
+    ensures answered { IsAnswered result.status → (error : ReadErrorValue) → answer ≡ Err (Stop.Read error) → ⊥ }
+    ensures read_fault { result.status ≡ Status.ReadFault → answer ≡ Err (Stop.Read ReadError.Failed) }
     ensures write_cause { (taken : ℕ) → result.status ≡ Status.WriteFault taken →
         Rose (K.faults sink.old) (K.faults sink.new) }
     ensures unwritten { IsUnwritten result.status → K.taken sink.new ≡ K.taken sink.old }
@@ -49,17 +53,20 @@ fn give<K: Sink>(answer: Result<Written, Refusal<InputFault>>, sink: &mut K) -> 
                 taken: failed.taken,
             }),
         },
-        Err(Refusal::Fault(fault)) => End::of(status_of(fault)),
-        Err(Refusal::NoMemory) => End::of(Status::NoMemory),
+        Err(Stop::Fault(fault)) => End::of(status_of(fault)),
+        Err(Stop::Read(ReadError::Failed)) => End::of(Status::ReadFault),
+        Err(Stop::Read(ReadError::NoMemory)) => End::of(Status::NoMemory),
     }
 }
 
 /// Reads the input of a command, if it has one, and writes its answer.
-pub fn serve<S: Source, K: Sink>(
+pub fn serve<R: Threads + Sync, S: Source, K: Sink, G: Gate + Sync>(
+    rt: &R,
     alloc: Global,
     command: &Command,
     source: &mut S,
     sink: &mut K,
+    gate: &G,
 ) -> End
     requires { IsSound command.now }
     ensures ends { EndsAs (command_answer command.now) (IsSome (input_limit command.now))
@@ -78,12 +85,6 @@ pub fn serve<S: Source, K: Sink>(
         result.status (end_line result.status result.exit) }
     ensures not_words { IsBadWords result.status → ⊥ }
 {
-    let Some(limit) = input_limit(command) else {
-        return give(answer(alloc, command, &[]), sink);
-    };
-    match read_all(alloc, source, limit) {
-        Ok(input) => give(answer(alloc, command, &input), sink),
-        Err(ReadError::Failed) => End::of(Status::ReadFault),
-        Err(ReadError::NoMemory) => End::of(Status::NoMemory),
-    }
+    let answer = answer(rt, alloc, command, source, gate);
+    give(answer, sink)
 }

@@ -1,16 +1,24 @@
 ghost use Rattle.std.specs.Prelude.{◌≡◌, None, IfOk};
 ghost use Rattle.elf_image.specs.Image.{image_of};
+ghost use Rattle.livepoint_format.specs.Decoding.{library_of};
+ghost use Rattle.livepoint_format.specs.Format.{spelling};
 ghost use Rattle.rv_machine.specs.declared.outcome.Outcome.TheVariants.{Exited};
 ghost use Rattle.rv_machine.specs.Machine.{started};
 ghost use Rattle.smarts_base.specs.Outcome.{Answers};
-ghost use Rattle.turbosmarts.specs.Stages.{exit_or_fault, image_or_fault};
+ghost use Rattle.turbosmarts.specs.Stages.{exit_or_fault, image_or_fault, library_or_fault, library_written};
 
 use crate::ending::Exit;
 use crate::fault::InputFault;
+use crate::written::Written;
 use elf_image::{Image, read_image};
+use livepoint_format::{Library, decode_library, encode_library, encoded_len};
 use rv_machine::{Outcome, Whole};
 use smarts_base::{NoMemory, Refusal};
+use smarts_text::DesignFault;
 use std::alloc::Global;
+
+/// The most bytes of a library.
+pub const LIBRARY_LIMIT: usize = 1_073_741_824;
 
 /// The image in the input.
 pub fn image_in(alloc: Global, input: &[u8]) -> Result<Image, Refusal<InputFault>>
@@ -42,4 +50,28 @@ pub fn exit_of(outcome: &Outcome, budget: u64) -> Result<Exit, Refusal<InputFaul
         Outcome::Trapped { at, trap } => Err(Refusal::Fault(InputFault::Trapped { at, trap })),
         Outcome::Spent => Err(Refusal::Fault(InputFault::BudgetSpent { budget })),
     }
+}
+
+/// The library in the input.
+pub fn library_in(alloc: Global, input: &[u8]) -> Result<Library, Refusal<InputFault>>
+    ensures { Answers (λ library. library) result (library_or_fault (library_of input.now)) }
+{
+    match decode_library(alloc, input) {
+        Ok(library) => Ok(library),
+        Err(Refusal::Fault(fault)) => Err(Refusal::Fault(InputFault::BadLibrary(fault))),
+        Err(Refusal::NoMemory) => Err(Refusal::NoMemory),
+    }
+}
+
+/// The bytes of a library, where they aren't too many: these are counted before any is written.
+#[tactic(auto, unfolding(crate::specs::Stages::library_written))]
+pub fn write_library(alloc: Global, library: &Library) -> Result<Written, Refusal<InputFault>>
+    ensures { Answers (λ written. written) result (library_written (spelling library.now)) }
+{
+    let length = encoded_len(library);
+    if length > LIBRARY_LIMIT as u64 {
+        return Err(Refusal::Fault(InputFault::BadDesign(DesignFault::LibraryTooLarge { length })));
+    }
+    let bytes = encode_library(alloc, library)?;
+    Ok(Written::new(bytes, None))
 }

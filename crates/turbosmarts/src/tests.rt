@@ -1,14 +1,18 @@
 // The program over memory: the status, and what the sink and the lines hold, for words and an input.
 
+mod estimates;
+mod libraries;
+
 use crate::top::turbosmarts;
 use elf_image::ImageFault;
 use rv_exec::{Trap, TrapKind};
-use smarts_base::NoMemory;
+use smarts_base::{NoMemory, OpenGate};
 use smarts_io::{MemorySink, MemorySource};
 use smarts_text::{DesignFault, Status, WordFault, WordKind};
 use std::alloc::Global;
 use std::process::Abort;
 use std::test::Fail;
+use std::thread::Threads;
 
 /// The headers of an ELF file for RISC-V, as far as the two sizes of its one segment, which stands
 /// behind them in the file and at 0x00010054 in memory.
@@ -129,7 +133,7 @@ fn refused(status: Status, lines: &str) -> Wanted {
 }
 
 // Runs the program on these words and this input, and compares all that it answers.
-fn expect<R: Abort + AllocGlobal>(
+fn expect<R: Abort + AllocGlobal + Threads + Sync>(
     rt: &R,
     line: &str,
     input: Vec<u8>,
@@ -141,7 +145,7 @@ fn expect<R: Abort + AllocGlobal>(
     let mut source = MemorySource::new(input, 77, Vec::from_slice(alloc, failing.reads)?);
     let mut sink = MemorySink::new(alloc, 10, 1000, Vec::from_slice(alloc, failing.writes)?)?;
     let mut lines = MemorySink::new(alloc, 4, 1000, Vec::from_slice(alloc, failing.lines)?)?;
-    let status = turbosmarts(alloc, &words, &mut source, &mut sink, &mut lines);
+    let status = turbosmarts(rt, alloc, &words, &mut source, &mut sink, &mut lines, &OpenGate);
     assert_eq!(rt; status, wanted.status, "{line}");
     assert_eq!(rt; sink.bytes(), wanted.output, "{line}");
     assert_eq!(rt; lines.bytes(), wanted.lines.as_bytes(), "{line}");

@@ -10,10 +10,11 @@ ghost use Rattle.turbosmarts.specs.Telling.{TakesFront};
 use crate::ending::End;
 use crate::serving::serve;
 use crate::telling::tell;
-use smarts_base::Refusal;
+use smarts_base::{Gate, Refusal};
 use smarts_io::{Sink, Source};
 use smarts_text::{Status, read_words};
 use std::alloc::Global;
+use std::thread::Threads;
 
 /// All that the program does: it takes the words of the command line, without the program's name, reads its
 /// input from the source, writes its answer to the sink, and tells a person about it by the lines.
@@ -22,12 +23,16 @@ use std::alloc::Global;
 /// `sample` it is the report of one thread that keeps the whole machine, feeds plain caches and the predictor every
 /// instruction, times each unit's window from there, and folds the units in the shuffled order until the test of
 /// confidence first holds or none is left. `demo` is a sample of the program that is made from its size and seed.
-pub fn turbosmarts<S: Source, K: Sink, F: Sink>(
+/// For `estimate` it is the same of the windows that the points of a library tell, in their order, at any number of
+/// workers. Each worker tells the gate the number of each point before it simulates it.
+pub fn turbosmarts<R: Threads + Sync, S: Source, K: Sink, F: Sink, G: Gate + Sync>(
+    rt: &R,
     alloc: Global,
     words: &[String],
     source: &mut S,
     sink: &mut K,
     lines: &mut F,
+    gate: &G,
 ) -> Status
     // An end that isn't due to the source, the sink or memory is the answer's, and so is what was written.
     ensures status { IsDetermined result → IfSome (S.rest source.old) (λ input.
@@ -90,14 +95,21 @@ pub fn turbosmarts<S: Source, K: Sink, F: Sink>(
         TakesFront (answer (map string_bytes words.now) input).lines
         (F.taken lines.old) (F.taken lines.new) (F.faults lines.old) (F.faults lines.new)) }
 {
-    let end = end_of(alloc, words, source, sink);
+    let end = end_of(rt, alloc, words, source, sink, gate);
     let mut text = [0; 64];
     let length = end.text(&mut text);
     tell(lines, &text[..length]);
     end.status
 }
 
-fn end_of<S: Source, K: Sink>(alloc: Global, words: &[String], source: &mut S, sink: &mut K) -> End
+fn end_of<R: Threads + Sync, S: Source, K: Sink, G: Gate + Sync>(
+    rt: &R,
+    alloc: Global,
+    words: &[String],
+    source: &mut S,
+    sink: &mut K,
+    gate: &G,
+) -> End
     ensures ends { EndsAs (answer (map string_bytes words.now)) (AsksForInput (meaning (map string_bytes words.now)))
         (record {
           before = S.rest source.old;
@@ -117,7 +129,7 @@ fn end_of<S: Source, K: Sink>(alloc: Global, words: &[String], source: &mut S, s
     ensures words_only { IsBadWords result.status → IsErr (meaning (map string_bytes words.now)) }
 {
     match read_words(words) {
-        Ok(command) => serve(alloc, &command, source, sink),
+        Ok(command) => serve(rt, alloc, &command, source, sink, gate),
         Err(Refusal::Fault(fault)) => End::of(Status::BadWords(fault)),
         Err(Refusal::NoMemory) => End::of(Status::NoMemory),
     }

@@ -28,7 +28,7 @@ fn usual(alloc: Global, key: &Key) -> Result<String, NoMemory> {
             let sets = two_to(sets_log);
             format!(in alloc; "{sets}:{ways}")?
         }
-        Form::Kind(kind) => {
+        Form::Kind(kind) | Form::Kinds(kind) => {
             let scheme = match kind.scheme {
                 Scheme::Bimodal => "bimodal",
                 Scheme::Gshare => "gshare",
