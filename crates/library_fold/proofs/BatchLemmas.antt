@@ -24,11 +24,13 @@ pub come_behind :
     (r mid new : Reading) (before between after : Option (List ℕ)) (some more : List Point)
     → HasCome r mid before between some → HasCome mid new between after more
     → HasCome r new before after (some ++ more)
-come_behind r mid new before between after some more one two =
-    (one.0 ++ two.0, record {
-      read = read_behind r mid new before between after some more one.0 two.0 one.1.read two.1.read;
-      front = two.1.front ∙ one.1.front;
-    })
+come_behind r mid new before between after some more one two = (
+  one.0 ++ two.0,
+  record {
+    read = read_behind r mid new before between after some more one.0 two.0 one.1.read two.1.read;
+    front = two.1.front ∙ one.1.front;
+  },
+)
 
 all_behind :
     (r mid : Reading) (before between : Option (List ℕ)) (some more : List Point)
@@ -42,16 +44,19 @@ pub ended_behind :
     (r mid : Reading) (before between after : Option (List ℕ)) (some more : List Point)
     → HasCome r mid before between some → HasEnded mid between after more → HasEnded r before after (some ++ more)
 ended_behind r mid before between after some more one two =
-    let over = over_behind r mid before between after some (λ first. library_at None mid.front (first ++ more)) one.0 two.0 one.1.read two.1 in
-    (one.0 ++ two.0, record {
-      gives = over.gives;
-      whole = over.whole;
-      most = over.most;
-      library = λ bytes first h size.
-          over.library bytes first h size
-          ∙ ap (library_at None mid.front) (append_assoc first some more)
-          ∙ ap (λ (front : Option Front). library_at None front (first ++ (some ++ more))) one.1.front;
-    }, all_behind r mid before between some more one two.2)
+    let over = over_behind r mid before between after some (λ first. library_at None mid.front (first ++ more)) one.0 two.0 one.1.read two.1 in (
+      one.0 ++ two.0,
+      record {
+        gives = over.gives;
+        whole = over.whole;
+        most = over.most;
+        library = λ bytes first h size.
+            over.library bytes first h size
+            ∙ ap (library_at None mid.front) (append_assoc first some more)
+            ∙ ap (λ (front : Option Front). library_at None front (first ++ (some ++ more))) one.1.front;
+      },
+      all_behind r mid before between some more one two.2,
+    )
 
 -- the end by itself
 pub ended_here :
@@ -59,16 +64,19 @@ pub ended_here :
     → HasCome r mid before between some → IsOver mid between after (library_at None mid.front) over → AreAll mid
     → HasEnded r before after some
 ended_here r mid before between after some over one two all_there =
-    let all = over_behind r mid before between after some (library_at None mid.front) one.0 over one.1.read two in
-    (one.0 ++ over, record {
-      gives = all.gives;
-      whole = all.whole;
-      most = all.most;
-      library = λ bytes first h size.
-          all.library bytes first h size ∙ ap (λ (front : Option Front). library_at None front (first ++ some)) one.1.front;
-    }, λ bytes first h.
-        subst (λ (front : Option Front). IfSome front (λ f. length (first ++ some) ≡ f.0.points)) one.1.front
-        (all_there (bytes ++ one.0) (first ++ some) (one.1.read.on bytes first h)))
+    let all = over_behind r mid before between after some (library_at None mid.front) one.0 over one.1.read two in (
+      one.0 ++ over,
+      record {
+        gives = all.gives;
+        whole = all.whole;
+        most = all.most;
+        library = λ bytes first h size.
+            all.library bytes first h size ∙ ap (λ (front : Option Front). library_at None front (first ++ some)) one.1.front;
+      },
+      λ bytes first h.
+          subst (λ (front : Option Front). IfSome front (λ f. length (first ++ some) ≡ f.0.points)) one.1.front
+          (all_there (bytes ++ one.0) (first ++ some) (one.1.read.on bytes first h)),
+    )
 
 pub stopped_behind :
     (stop : Stop) (r mid : Reading) (before between after : Option (List ℕ)) (some : List Point)
@@ -140,7 +148,7 @@ left_behind r new before after bytes first points h there come room full =
     let count : new.points ≡ length (first ++ points) = (come.1.read.on bytes first h).count in
     let fewer : r.points < new.points = omega (arith, h.count, count, length-append first points, full) in
     let within : IfSome r.front (λ f. new.points ≤ f.0.points) =
-        subst (λ (n : ℕ). IfSome r.front (λ f. n ≤ f.0.points)) (sym count) (room bytes first h) in
+    subst (λ (n : ℕ). IfSome r.front (λ f. n ≤ f.0.points)) (sym count) (room bytes first h) in
     subst (λ (front : Option Front). left_by front new.points < left_of r) (sym come.1.front)
     (left_falls r.front r.points new.points there fewer within)
 

@@ -87,5 +87,5 @@ pub few_in :
     → count ≤ setup.header.points
 few_in setup old mid count for same few =
     let there : IfSome (Some for.of) (λ f. count ≤ f.0.points) =
-        subst (λ (front : Option Front). IfSome front (λ f. count ≤ f.0.points)) (same ∙ for.front_is) few in
+    subst (λ (front : Option Front). IfSome front (λ f. count ≤ f.0.points)) (same ∙ for.front_is) few in
     omega (arith, there, ap (λ (h : Head). h.points) for.head)

@@ -38,9 +38,11 @@ pub stopped_later :
     (header : Header) (fault : LibraryFault) (mid : Reading) (before between after : Option (List ℕ))
     → HasStarted header mid before between → IsStopped (stops.Library fault) mid between after
     → (given : List ℕ) × HasGiven before after (Err fault) given
-stopped_later header fault mid before between after start stop =
-    (start.1 ++ stop.0, given_over before after (λ first. Err fault) (start.1 ++ stop.0)
-    (over_behind fresh mid before between after [] (λ first. Err fault) start.1 stop.0 start.2.read stop.1))
+stopped_later header fault mid before between after start stop = (
+  start.1 ++ stop.0,
+  given_over before after (λ first. Err fault) (start.1 ++ stop.0)
+      (over_behind fresh mid before between after [] (λ first. Err fault) start.1 stop.0 start.2.read stop.1),
+)
 
 -- a library with this header and these points, as many as the header says
 pub record IsLibraryRead (header : Header) (before after : Option (List ℕ)) (points : List Point) : Type 0 where
@@ -61,7 +63,7 @@ pub library_read :
 library_read header mid before between after points start end =
     let over = over_behind fresh mid before between after [] (λ first. library_at None mid.front (first ++ points)) start.1 end.0 start.2.read end.1 in
     let given : HasGiven before after (library_at None mid.front points) (start.1 ++ end.0) =
-        given_over before after (λ first. library_at None mid.front ((first ++ []) ++ points)) (start.1 ++ end.0) over in
+    given_over before after (λ first. library_at None mid.front ((first ++ []) ++ points)) (start.1 ++ end.0) over in
     record {
       front = start.0;
       given = start.1 ++ end.0;

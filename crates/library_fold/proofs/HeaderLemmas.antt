@@ -45,14 +45,17 @@ pub started_of :
     → HasRead old new before after [] given → Some (head_of header) ≡ option_map (λ (f : Front). f.0) new.front
     → IsHeader (head_of header) → header.design.budget ≡ 1 → HasStarted header new before after
 started_of header old new before after given first read value is budget =
-    let head = some_head header new.front value in
-    (head.0, given, record {
-      read = subst (λ (r : Reading). HasRead r new before after [] given) first read;
-      front_is = head.1;
-      head = head.2;
-      header_is = subst IsHeader head.2 is;
-      budget = budget;
-    })
+    let head = some_head header new.front value in (
+      head.0,
+      given,
+      record {
+        read = subst (λ (r : Reading). HasRead r new before after [] given) first read;
+        front_is = head.1;
+        head = head.2;
+        header_is = subst IsHeader head.2 is;
+        budget = budget;
+      },
+    )
 
 -- a library that ends before its header is none
 pub no_header :

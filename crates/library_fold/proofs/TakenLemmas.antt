@@ -34,7 +34,7 @@ kinds_are kinds images are =
 pub taken_of : (setup : Setup) (h : Head) (point : Point) → head_of setup.header ≡ h → IsPoint h point.unit point → IsTaken setup point
 taken_of setup h point same is =
     let here : IsPoint (head_of setup.header) point.unit point =
-        subst (λ (head : Head). IsPoint head point.unit point) (sym same) is in
+    subst (λ (head : Head). IsPoint head point.unit point) (sym same) is in
     record {
       of = record {
         l1i = here.places.l1i.shape;

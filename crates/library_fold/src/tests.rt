@@ -21,7 +21,9 @@ const HEADER: [u8; 88] = [
 /// The point: of unit 0, at 0x00010054, with one shared word, empty records and an image that has learnt nothing.
 const STATE: [u8; 8] = [0, 0, 0, 0, 0x54, 0, 1, 0];
 
-const WORDS: [u8; 20] = [0, 0x10, 1, 0, 0, 0, 0, 0, 1, 0, 0, 0, 0, 0, 0, 0, 1, 0, 0, 0];
+const WORDS: [u8; 20] = [
+    0, 0x10, 1, 0, 0, 0, 0, 0, 1, 0, 0, 0, 0, 0, 0, 0, 1, 0, 0, 0,
+];
 
 const TARGETS: [u8; 33] = [
     1, 0, 0, 0, 0, 0, 0, 0, 1, 0, 0, 0, 0, 0, 0, 0, //
@@ -74,6 +76,9 @@ fn passes_the_points_of_a_library(rt: HostRuntime) -> Result<(), Fail> {
     let mut source = MemorySource::new(library(alloc)?, 100, Vec::new(alloc));
     let mut intake = Intake::new(alloc)?;
     let header = read_header(alloc, &mut intake, &mut source).ok();
-    assert_eq!(rt; header.map(|header| (header.points, header.design.unit)), Some((1, 16)));
+    assert_eq!(rt;
+        header.map(|header| (header.points, header.design.unit)),
+        Some((1, 16))
+    );
     Ok(())
 }

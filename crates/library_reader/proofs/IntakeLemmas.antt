@@ -157,10 +157,12 @@ handed_more parts.Header r mid new before between after first one front h =
 handed_more (parts.Point point) r mid new before between after first one front h =
     (first ++ h.0, read_behind r mid new before between after [] (point ∷ []) first h.0 one h.1)
 handed_more parts.More r mid new before between after first one front h = absurd h
-handed_more parts.End r mid new before between after first one front h =
-    (first ++ h.0, subst (λ (f : Option Front). IsOver r before after (library_at None f) (first ++ h.0)) front
-    (over_more r mid before between after (library_at None mid.front) first h.0 one h.1),
-    all_before r mid before between first one front h.2)
+handed_more parts.End r mid new before between after first one front h = (
+  first ++ h.0,
+  subst (λ (f : Option Front). IsOver r before after (library_at None f) (first ++ h.0)) front
+      (over_more r mid before between after (library_at None mid.front) first h.0 one h.1),
+  all_before r mid before between first one front h.2,
+)
 handed_more (parts.Fault fault) r mid new before between after first one front h =
     (first ++ h.0, over_more r mid before between after (λ handed. Err fault) first h.0 one h.1)
 
@@ -170,11 +172,15 @@ pub stepped_more :
     → IsStepped part r new before after
 stepped_more (Some part) r mid new before between after first one front h =
     handed_more part r mid new before between after first one front h
-stepped_more None r mid new before between after first one front h =
-    (first ++ h.0, record {
-      read = read_behind r mid new before between after [] [] first h.0 one h.1.read;
-      front = h.1.front ∙ front;
-    }, omega (arith, h.2, length-append first h.0), h.3)
+stepped_more None r mid new before between after first one front h = (
+  first ++ h.0,
+  record {
+    read = read_behind r mid new before between after [] [] first h.0 one h.1.read;
+    front = h.1.front ∙ front;
+  },
+  omega (arith, h.2, length-append first h.0),
+  h.3,
+)
 
 -- ---- the end and a fault hand out no point
 
@@ -252,17 +258,21 @@ pub stepped_fed :
     → IsStepped None old new before after
 stepped_fed count room given old new before after is some few most gives =
     let there : new ≡ fed given old = is.came some few in
-    let size : came_in new ≡ came_in old + count = came_more count room given old new is some few in
-    (given, record {
-      read = record {
-        gives = gives;
-        on = λ bytes first h.
-            subst (IsReadingOf (bytes ++ given) (first ++ [])) (sym there)
-            (no_point (bytes ++ given) first (fed given old) (feeds_on bytes given first old h));
-        size = omega (arith, size, is.count_is);
-      };
-      front = ap (λ (r : Reading). r.front) there;
-    }, omega (arith, some, is.count_is), omega (arith, size, few, most))
+    let size : came_in new ≡ came_in old + count = came_more count room given old new is some few in (
+      given,
+      record {
+        read = record {
+          gives = gives;
+          on = λ bytes first h.
+              subst (IsReadingOf (bytes ++ given) (first ++ [])) (sym there)
+              (no_point (bytes ++ given) first (fed given old) (feeds_on bytes given first old h));
+          size = omega (arith, size, is.count_is);
+        };
+        front = ap (λ (r : Reading). r.front) there;
+      },
+      omega (arith, some, is.count_is),
+      omega (arith, size, few, most),
+    )
 
 too_large : (bytes : List ℕ) → length bytes ≡ 1073741825 → library_of bytes ≡ Err (faults.TooLarge 1073741825)
 unfolding library_of
@@ -273,26 +283,32 @@ pub too_many :
     (r new : Reading) (before after : Option (List ℕ)) (given : List ℕ) (count : ℕ) → Gives before given after
     → count ≡ came_in r + length given → count ≡ 1073741825
     → IsHandedOn (parts.Fault (faults.TooLarge count)) r new before after
-too_many r new before after given count gives all full = (given, record {
-  gives = gives;
-  whole = λ few. absurd (omega (arith, few, all, full));
-  most = omega (arith, all, full);
-  library = λ bytes first h size.
-      too_large (bytes ++ given) (omega (arith, size, all, full, length-append bytes given))
-      ∙ ap (λ (n : ℕ). Err (faults.TooLarge n)) (sym full);
-})
+too_many r new before after given count gives all full = (
+  given,
+  record {
+    gives = gives;
+    whole = λ few. absurd (omega (arith, few, all, full));
+    most = omega (arith, all, full);
+    library = λ bytes first h size.
+        too_large (bytes ++ given) (omega (arith, size, all, full, length-append bytes given))
+        ∙ ap (λ (n : ℕ). Err (faults.TooLarge n)) (sym full);
+  },
+)
 
 pub refused_all :
     (r new : Reading) (before after : Option (List ℕ)) (given : List ℕ) (count : ℕ) (fault : LibraryFault)
     → r.fault ≡ Some fault → Gives before given after → count ≡ came_in r + length given → count ≤ 1073741824
     → IsAtEnd after → IsHandedOn (parts.Fault fault) r new before after
-refused_all r new before after given count fault faulty gives all few ended = (given, record {
-  gives = gives;
-  whole = λ _. ended;
-  most = omega (arith, all, few);
-  library = λ bytes first h size.
-      faulty_is bytes given first r fault h faulty (omega (arith, size, all, few, length-append bytes given));
-})
+refused_all r new before after given count fault faulty gives all few ended = (
+  given,
+  record {
+    gives = gives;
+    whole = λ _. ended;
+    most = omega (arith, all, few);
+    library = λ bytes first h size.
+        faulty_is bytes given first r fault h faulty (omega (arith, size, all, few, length-append bytes given));
+  },
+)
 
 all_of : (ended : Bool) (front : Option Front) (count : ℕ) → ended ≡ true → AreOf ended front count
     → IfSome front (λ f. count ≡ f.0.points)
@@ -312,22 +328,29 @@ all_came r is bytes first h = all_of r.ended r.front (length first) (ended_of r.
 settled_is :
     (f : Option LibraryFault) (r new : Reading) (before after : Option (List ℕ)) → final_fault r ≡ f → IsSettled r
     → came_in r ≤ 1073741824 → Gives before [] after → IsAtEnd after → IsHandedOn (last_part f) r new before after
-settled_is None r new before after is settled few gives ended = ([], record {
-  gives = gives;
-  whole = λ _. ended;
-  most = omega (arith, few);
-  library = λ bytes first h size.
-      ap library_of (append-nil bytes) ∙ ends_is bytes first r h settled (omega (arith, size, few))
-      ∙ ap (λ (g : Option LibraryFault). library_at g r.front first) is;
-}, all_came r is)
-settled_is (Some fault) r new before after is settled few gives ended = ([], record {
-  gives = gives;
-  whole = λ _. ended;
-  most = omega (arith, few);
-  library = λ bytes first h size.
-      ap library_of (append-nil bytes) ∙ ends_is bytes first r h settled (omega (arith, size, few))
-      ∙ ap (λ (g : Option LibraryFault). library_at g r.front first) is;
-})
+settled_is None r new before after is settled few gives ended = (
+  [],
+  record {
+    gives = gives;
+    whole = λ _. ended;
+    most = omega (arith, few);
+    library = λ bytes first h size.
+        ap library_of (append-nil bytes) ∙ ends_is bytes first r h settled (omega (arith, size, few))
+        ∙ ap (λ (g : Option LibraryFault). library_at g r.front first) is;
+  },
+  all_came r is,
+)
+settled_is (Some fault) r new before after is settled few gives ended = (
+  [],
+  record {
+    gives = gives;
+    whole = λ _. ended;
+    most = omega (arith, few);
+    library = λ bytes first h size.
+        ap library_of (append-nil bytes) ∙ ends_is bytes first r h settled (omega (arith, size, few))
+        ∙ ap (λ (g : Option LibraryFault). library_at g r.front first) is;
+  },
+)
 
 no_bytes : (given : List ℕ) (before after : Option (List ℕ)) → 0 ≡ length given → Gives before given after → Gives before [] after
 no_bytes [] before after size gives = gives

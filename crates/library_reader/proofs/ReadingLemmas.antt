@@ -66,7 +66,7 @@ module _ {A : Type 0} (read : Reader A) (grows : Grows read) (out : A × Spot �
       → ((more : List ℕ) → Stays more (spot r) result (read (longer (spot r) more)))
       → ((more : List ℕ) → read_all bytes more ≡ ended (onward (read (longer (spot r) more)) next))
       → ((x : A) (after : Spot) → ((more : List ℕ) → read_all bytes more ≡ ended (next x (longer after more)))
-        → IsReadingOf bytes (points ++ points_in (out (x, after)).0) (out (x, after)).1)
+      → IsReadingOf bytes (points ++ points_in (out (x, after)).0) (out (x, after)).1)
       → IsReadingOf bytes points r
       → IsReadingOf bytes (points ++ points_in (part_or_more r (handed out result)).0) (part_or_more r (handed out result)).1
   step_by (Ok x) e stays all value h =
@@ -78,7 +78,7 @@ module _ {A : Type 0} (read : Reader A) (grows : Grows read) (out : A × Spot �
 
   step : ((more : List ℕ) → read_all bytes more ≡ ended (onward (read (longer (spot r) more)) next))
       → ((x : A) (after : Spot) → ((more : List ℕ) → read_all bytes more ≡ ended (next x (longer after more)))
-        → IsReadingOf bytes (points ++ points_in (out (x, after)).0) (out (x, after)).1)
+      → IsReadingOf bytes (points ++ points_in (out (x, after)).0) (out (x, after)).1)
       → IsReadingOf bytes points r
       → IsReadingOf bytes (points ++ points_in (part_or_more r (handed out (read (spot r)))).0) (part_or_more r (handed out (read (spot r)))).1
   step all value h = step_by (read (spot r)) refl (grows.stays (spot r)) all value h
@@ -217,8 +217,8 @@ module _ (bytes : List ℕ) (points : List Point) (r : Reading) (sound : r.fault
 
   behind_step : (front : Front) (t : Bool) → nat_lt r.points front.0.points ≡ t → r.front ≡ Some front
       → (let d : Result (Part × Reading) LibraryFault =
-          if t then handed (with_point r) (point_at front.0 front.1 r.points (unit_of front.0 r.points) (spot r)) else handed (with_end r) (end_at (spot r)) in
-        IsReadingOf bytes (points ++ points_in (part_or_more r d).0) (part_or_more r d).1)
+      if t then handed (with_point r) (point_at front.0 front.1 r.points (unit_of front.0 r.points) (spot r)) else handed (with_end r) (end_at (spot r)) in
+      IsReadingOf bytes (points ++ points_in (part_or_more r d).0) (part_or_more r d).1)
   behind_step front true test is =
       let few : length points < front.0.points = omega (arith, ltb-true r.points front.0.points test, h.count) in
       step (point_at front.0 front.1 r.points (unit_of front.0 r.points)) (point_grows front.0 front.1 r.points (unit_of front.0 r.points))
@@ -279,7 +279,7 @@ end_step :
     (bytes : List ℕ) (points : List Point) (r : Reading) (t : Bool) → (length r.unread == 0) ≡ t → r.fault ≡ None
     → r.ended ≡ true → IsReadingOf bytes points r
     → (let d : Part × Reading = if t then (parts.End, r) else refused r (faults.TrailingBytes r.taken) in
-      IsReadingOf bytes (points ++ points_in d.0) d.1)
+    IsReadingOf bytes (points ++ points_in d.0) d.1)
 end_step bytes points r true test sound over h = no_point bytes points r h
 end_step bytes points r false test sound over h =
     is_refused bytes points r (faults.TrailingBytes r.taken) h
@@ -310,7 +310,7 @@ behind_settles :
     (r : Reading) (front : Front) (t : Bool) → r.fault ≡ None → r.ended ≡ false
     → due r ≡ (if t then handed (with_point r) (point_at front.0 front.1 r.points (unit_of front.0 r.points) (spot r)) else handed (with_end r) (end_at (spot r)))
     → (let d : Part × Reading = part_or_more r (if t then handed (with_point r) (point_at front.0 front.1 r.points (unit_of front.0 r.points) (spot r)) else handed (with_end r) (end_at (spot r))) in
-      IsLast d.0 → IsSettled d.1)
+    IsLast d.0 → IsSettled d.1)
 behind_settles r front true sound over is last =
     settled_by (point_at front.0 front.1 r.points (unit_of front.0 r.points)) (point_grows front.0 front.1 r.points (unit_of front.0 r.points))
     (with_point r) (λ point. done (whole_of front [])) [] [] r _ is sound over (λ x l. absurd l) last

@@ -188,11 +188,7 @@ impl Intake {
     }
 
     // The fault that all of the source has: this one, unless it has too many bytes.
-    fn refuse<S: Source>(
-        &mut self,
-        source: &mut S,
-        fault: LibraryFault,
-    ) -> Result<Part, ReadError>
+    fn refuse<S: Source>(&mut self, source: &mut S, fault: LibraryFault) -> Result<Part, ReadError>
         requires { self.old.fault ≡ Some fault }
         ensures handed { IfOk result (λ part. IsHandedOn part self.old self.new (S.rest source.old) (S.rest source.new)) }
         ensures last { IfOk result IsLast }
@@ -208,11 +204,7 @@ impl Intake {
     }
 
     // Hands out what came in, or reads once from the source.
-    fn step<S: Source>(
-        &mut self,
-        alloc: Global,
-        source: &mut S,
-    ) -> Result<Option<Part>, ReadError>
+    fn step<S: Source>(&mut self, alloc: Global, source: &mut S) -> Result<Option<Part>, ReadError>
         ensures stepped { IfOk result (λ part. IsStepped part self.old self.new (S.rest source.old) (S.rest source.new)) }
         ensures point { IfOk result (λ part. IfSome part (λ part. IfSome self.old.front (λ front. All (λ point. IsPoint front.0 point.unit point) (points_in part)))) }
         ensures front { IfOk result (λ part. IfSome part (λ part. IsMidFront part self.old.front self.new.front)) }
@@ -230,11 +222,7 @@ impl Intake {
     }
 
     /// Hands out the header, each point, and the end or a fault: what all of the source is.
-    pub fn next<S: Source>(
-        &mut self,
-        alloc: Global,
-        source: &mut S,
-    ) -> Result<Part, ReadError>
+    pub fn next<S: Source>(&mut self, alloc: Global, source: &mut S) -> Result<Part, ReadError>
         ensures handed { IfOk result (λ part. IsHandedOn part self.old self.new (S.rest source.old) (S.rest source.new)) }
 
         // A point is one that may stand there.

@@ -22,7 +22,9 @@ const END_WORD: [u8; 4] = [0x54, 0x45, 0x4E, 0x44];
 /// The point: of unit 0, at 0x00010054, with one shared word, empty records and an image that has learnt nothing.
 const STATE: [u8; 8] = [0, 0, 0, 0, 0x54, 0, 1, 0];
 
-const WORDS: [u8; 20] = [0, 0x10, 1, 0, 0, 0, 0, 0, 1, 0, 0, 0, 0, 0, 0, 0, 1, 0, 0, 0];
+const WORDS: [u8; 20] = [
+    0, 0x10, 1, 0, 0, 0, 0, 0, 1, 0, 0, 0, 0, 0, 0, 0, 1, 0, 0, 0,
+];
 
 const TARGETS: [u8; 33] = [
     1, 0, 0, 0, 0, 0, 0, 0, 1, 0, 0, 0, 0, 0, 0, 0, //
@@ -103,7 +105,10 @@ fn reads_a_source(rt: HostRuntime) -> Result<(), Fail> {
         let mut intake = Intake::new(alloc)?;
         assert_eq!(rt; next_number(alloc, &mut intake, &mut source), (0, 0));
         assert_eq!(rt; intake.header().map(|header| header.points), Some(1));
-        assert_eq!(rt; next_number(alloc, &mut intake, &mut source), (1, 0x0001_0054));
+        assert_eq!(rt;
+            next_number(alloc, &mut intake, &mut source),
+            (1, 0x0001_0054)
+        );
         assert_eq!(rt; next_number(alloc, &mut intake, &mut source), third);
     }
     let mut source = MemorySource::new(library(alloc)?, 100, Vec::from_slice(alloc, &[2])?);

@@ -283,9 +283,11 @@ pub served_beyond :
 served_beyond asked test header config structure mid before between after start end same first =
     let library = library_read header mid before between after end.0 start end.1 in
     let beyond : first_beyond header.records (config_for asked header.records) ≡ Some structure =
-        subst (λ (c : Config). first_beyond header.records c ≡ Some structure) same (one_beyond header.records config structure first) in
-    (library.given, given_read before after (Ok (whole_of library.front end.0)) library.given library.is,
-    beyond_is asked test library.given header library.front end.0 structure library.is.library library.head start.2.budget beyond)
+    subst (λ (c : Config). first_beyond header.records c ≡ Some structure) same (one_beyond header.records config structure first) in (
+      library.given,
+      given_read before after (Ok (whole_of library.front end.0)) library.given library.is,
+      beyond_is asked test library.given header library.front end.0 structure library.is.library library.head start.2.budget beyond,
+    )
 
 -- the fold of all points, and what is answered to what was read
 pub record IsEstimate (asked : Asked) (test : Test) (header : Header) (before after : Option (List ℕ)) (front : Front) : Type 0 where
@@ -307,13 +309,13 @@ estimate_is asked test header config mid before between after start front began 
     let points = folds.0 in
     let library = library_read header mid before between after points began folds.1 in
     let none : first_beyond header.records (config_for asked header.records) ≡ None =
-        subst (λ (c : Config). first_beyond header.records c ≡ None) same (none_beyond header.records config within) in
+    subst (λ (c : Config). first_beyond header.records c ≡ None) same (none_beyond header.records config within) in
     let fold : IsWholeFold test (map (point_answer config header) points) front =
-        whole_fold setup test points header.points front some library.count
-        (folds.2 ∙ ap (λ (s : Front). with_answers setup s points) first) in
+    whole_fold setup test points header.points front some library.count
+    (folds.2 ∙ ap (λ (s : Front). with_answers setup s points) first) in
     let is : estimate_result asked test library.given ≡ estimate_of test config header points =
-        within_is asked test library.given header library.front points library.is.library library.head began.2.budget none
-        ∙ ap (λ (c : Config). estimate_of test c header points) (sym same) in
+    within_is asked test library.given header library.front points library.is.library library.head began.2.budget none
+    ∙ ap (λ (c : Config). estimate_of test c header points) (sym same) in
     record {
       given = library.given;
       read = given_read before after (Ok (whole_of library.front points)) library.given library.is;

@@ -145,7 +145,15 @@ fn expect<R: Abort + AllocGlobal + Threads + Sync>(
     let mut source = MemorySource::new(input, 77, Vec::from_slice(alloc, failing.reads)?);
     let mut sink = MemorySink::new(alloc, 10, 1000, Vec::from_slice(alloc, failing.writes)?)?;
     let mut lines = MemorySink::new(alloc, 4, 1000, Vec::from_slice(alloc, failing.lines)?)?;
-    let status = turbosmarts(rt, alloc, &words, &mut source, &mut sink, &mut lines, &OpenGate);
+    let status = turbosmarts(
+        rt,
+        alloc,
+        &words,
+        &mut source,
+        &mut sink,
+        &mut lines,
+        &OpenGate,
+    );
     assert_eq!(rt; status, wanted.status, "{line}");
     assert_eq!(rt; sink.bytes(), wanted.output, "{line}");
     assert_eq!(rt; lines.bytes(), wanted.lines.as_bytes(), "{line}");

@@ -51,9 +51,7 @@ pub fn answer<R: Threads + Sync, S: Source, G: Gate + Sync>(
     let config = asked.config(&header.records);
     if let Some(structure) = within(&header, &config) {
         pass_points(alloc, &mut intake, source)?;
-        return Err(Stop::Fault(InputFault::BadDesign(DesignFault::Beyond {
-            structure,
-        })));
+        return Err(Stop::Fault(InputFault::BadDesign(DesignFault::Beyond { structure })));
     }
     let mut crew = crew(alloc, &header, &config, *test, workers as usize)?;
     fold_points(rt, alloc, &mut intake, source, &mut crew, gate)?;

@@ -71,10 +71,25 @@ fn refuses_libraries_and_processors(rt: HostRuntime) -> Result<(), Fail> {
         (9256, "estimate", 5, "library: fault 4 at 9256\n"),
         (9258, "estimate", 5, "library: fault 8 at 9257\n"),
         (9257, "estimate l1i=64:64:5", 6, "design: fault 4 value 0\n"),
-        (9257, "estimate l2=64:1024:8", 6, "design: fault 4 value 2\n"),
+        (
+            9257,
+            "estimate l2=64:1024:8",
+            6,
+            "design: fault 4 value 2\n",
+        ),
         (9257, "estimate dtlb=32:4", 6, "design: fault 4 value 4\n"),
-        (9257, "estimate predictor=bimodal:4:2:0", 6, "design: fault 4 value 5\n"),
-        (9258, "estimate l2=64:1024:8", 5, "library: fault 8 at 9257\n"),
+        (
+            9257,
+            "estimate predictor=bimodal:4:2:0",
+            6,
+            "design: fault 4 value 5\n",
+        ),
+        (
+            9258,
+            "estimate l2=64:1024:8",
+            5,
+            "library: fault 8 at 9257\n",
+        ),
     ];
     for (length, line, status, text) in cases {
         let estimate = answered(&rt, line, longer.get(..length).ok_or("no library")?)?;
@@ -96,7 +111,12 @@ fn names_a_point_that_lacks_a_word(rt: HostRuntime) -> Result<(), Fail> {
     let whole = library(&rt, EACH, &file(alloc, 0, &LOOP)?)?;
     for (place, line, status, text) in [
         (1usize, "estimate", 5, "library: fault 10 at 1\n"),
-        (29, "estimate machine=scalar", 5, "library: fault 10 at 29\n"),
+        (
+            29,
+            "estimate machine=scalar",
+            5,
+            "library: fault 10 at 29\n",
+        ),
         (40, "estimate machine=scalar", 0, THIRTY),
     ] {
         let bytes = lacking(alloc, &whole, place)?;
@@ -118,16 +138,40 @@ fn names_a_point_that_lacks_a_word(rt: HostRuntime) -> Result<(), Fail> {
 fn refuses_words_and_sources(rt: HostRuntime) -> Result<(), Fail> {
     let alloc = rt.alloc();
     for (line, kind, text) in [
-        ("estimate unit=16", WordKind::UnknownKey, "words: fault 3 at 1\n"),
-        ("estimate workers=0", WordKind::OutOfRange, "words: fault 6 at 1\n"),
-        ("estimate workers=65", WordKind::OutOfRange, "words: fault 6 at 1\n"),
+        (
+            "estimate unit=16",
+            WordKind::UnknownKey,
+            "words: fault 3 at 1\n",
+        ),
+        (
+            "estimate workers=0",
+            WordKind::OutOfRange,
+            "words: fault 6 at 1\n",
+        ),
+        (
+            "estimate workers=65",
+            WordKind::OutOfRange,
+            "words: fault 6 at 1\n",
+        ),
     ] {
-        expect(&rt, line, Vec::new(alloc), NOTHING, refused(bad_words(kind, 1), text))?;
+        expect(
+            &rt,
+            line,
+            Vec::new(alloc),
+            NOTHING,
+            refused(bad_words(kind, 1), text),
+        )?;
     }
     let failing = Failing {
         reads: &[2],
         ..NOTHING
     };
     let bytes = library(&rt, FIRST, &file(alloc, 13, &[])?)?;
-    expect(&rt, "estimate", bytes, failing, refused(Status::ReadFault, "read fault\n"))
+    expect(
+        &rt,
+        "estimate",
+        bytes,
+        failing,
+        refused(Status::ReadFault, "read fault\n"),
+    )
 }

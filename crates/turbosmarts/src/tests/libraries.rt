@@ -59,7 +59,15 @@ pub fn answered<R: AllocGlobal + Threads + Sync>(
     let mut source = MemorySource::new(Vec::from_slice(alloc, input)?, 65_536, Vec::new(alloc));
     let mut sink = MemorySink::new(alloc, 65_536, 1_000_000, Vec::new(alloc))?;
     let mut lines = MemorySink::new(alloc, 64, 64, Vec::new(alloc))?;
-    let status = turbosmarts(rt, alloc, &words, &mut source, &mut sink, &mut lines, &OpenGate);
+    let status = turbosmarts(
+        rt,
+        alloc,
+        &words,
+        &mut source,
+        &mut sink,
+        &mut lines,
+        &OpenGate,
+    );
     Ok(Ended {
         status,
         output: Vec::from_slice(alloc, sink.bytes())?,

@@ -30,7 +30,7 @@ fold_batch-requires-clause-room g c = λ κs within going.
     let batch = c.next_batch.new.batch.items in
     let on = reading_on c.args.intake.now c.loop-batch.intake _ _ come.0 come.1 c.requires.read in
     let few = few_in desks.0 c.args.intake.now.front c.loop-batch.intake.front _ desks.2 come.1.1.front
-        (c.in_ok-over.ensures.room on.0 come.0 on.1) in
+    (c.in_ok-over.ensures.room on.0 come.0 on.1) in
     rw c.deref.ensures.value
     (omega (arith, few, length-append come.0 batch, come.2.going going, come.2.total, c.requires.start.1, desks.3))
 
@@ -39,9 +39,12 @@ fold_batch-requires-clause-takes g c = λ κs within.
     let come = c.loop-batch.invariant.come in
     let desks = c.requires.desks in
     let taken : AreTaken c.args.intake.now.front c.next_batch.new.batch.items =
-        subst (λ (front : Option Front). AreTaken front c.next_batch.new.batch.items) come.1.1.front c.in_ok-over.ensures.taken in
-    (desks.0, come.2.alike desks.0 desks.1, desks.2.served,
-    rw c.deref.ensures.value (points_taken desks.0 c.args.intake.now.front c.next_batch.new.batch.items desks.2 taken))
+    subst (λ (front : Option Front). AreTaken front c.next_batch.new.batch.items) come.1.1.front c.in_ok-over.ensures.taken in (
+      desks.0,
+      come.2.alike desks.0 desks.1,
+      desks.2.served,
+      rw c.deref.ensures.value (points_taken desks.0 c.args.intake.now.front c.next_batch.new.batch.items desks.2 taken),
+    )
 
 pub returns-then-over-clause-folded : goal.returns-then-over-clause-folded
 returns-then-over-clause-folded g c = λ setup alike.
@@ -78,8 +81,11 @@ loop-batch-preserved g c =
       alike = c.in_ok-fold_batch.ensures.alike;
     } in
     record {
-      come = (come.0 ++ batch, come_behind c.args.intake.now c.loop-batch.intake c.next_batch.new.intake _ _ _ come.0 batch come.1 read.0,
-          folding_behind _ _ _ _ _ _ come.0 batch come.2 more (λ still. (c.in_ok-fold_batch.ensures.going still).0));
+      come = (
+        come.0 ++ batch,
+        come_behind c.args.intake.now c.loop-batch.intake c.next_batch.new.intake _ _ _ come.0 batch come.1 read.0,
+        folding_behind _ _ _ _ _ _ come.0 batch come.2 more (λ still. (c.in_ok-fold_batch.ensures.going still).0),
+      );
       empty = search rules;
       crew = search rules;
       later = search rules;

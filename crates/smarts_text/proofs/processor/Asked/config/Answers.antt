@@ -17,7 +17,7 @@ returns-clause-config c =
         dtlb = subst IsTlbShape (sym c.unwrap_or-5.ensures) (or_holds IsTlbShape _ _ asked.dtlb places.dtlb);
       };
       predictor = subst IsKind (sym c.unwrap_or-6.ensures) (or_holds IsKind _ _ asked.kind
-      (rw c.as_slice.ensures.value (c.requires.kinds 0 _ (omega (arith, c.as_slice.ensures.kinds.least)))));
+          (rw c.as_slice.ensures.value (c.requires.kinds 0 _ (omega (arith, c.as_slice.ensures.kinds.least)))));
       widths = asked.widths;
       latencies = asked.latencies;
     }

@@ -37,20 +37,21 @@ fold_points-requires-clause-start g c = λ κs within.
 
 pub fold_points-requires-clause-desks : goal.fold_points-requires-clause-desks
 fold_points-requires-clause-desks g c = λ κs within.
-    let started = c.in_ok-header.ensures.started in
-    (record { header = c.in_ok-header.header; config = c.config-config.result },
-    c.in_ok-crew.ensures.alike,
-    record {
-      served = record {
-        design = c.in_ok-header.ensures.foldable.design;
-        config_is = c.config-config.ensures.config;
-        within = c.in_default.ensures;
-      };
-      of = started.0;
-      front_is = started.2.front_is;
-      head = started.2.head;
-    },
-    ap (λ (f : Front). f.total) c.in_ok-crew.ensures.front)
+    let started = c.in_ok-header.ensures.started in (
+      record { header = c.in_ok-header.header; config = c.config-config.result },
+      c.in_ok-crew.ensures.alike,
+      record {
+        served = record {
+          design = c.in_ok-header.ensures.foldable.design;
+          config_is = c.config-config.ensures.config;
+          within = c.in_default.ensures;
+        };
+        of = started.0;
+        front_is = started.2.front_is;
+        head = started.2.head;
+      },
+      ap (λ (f : Front). f.total) c.in_ok-crew.ensures.front,
+    )
 
 pub returns-in_err-fold_points-clause-served : goal.returns-in_err-fold_points-clause-served
 returns-in_err-fold_points-clause-served g c =
@@ -63,16 +64,16 @@ pub report-requires-clause-ended : goal.report-requires-clause-ended
 report-requires-clause-ended g c =
     let setup : Setup = record { header = c.in_ok-header.header; config = c.config-config.result } in
     let is = estimate_is c.args.asked.now c.args.test.now c.in_ok-header.header c.config-config.result c.read_header.new.intake _ _ _
-        c.in_ok-crew.crew.front c.fold_points.new.crew.front c.in_ok-header.ensures.started c.in_ok-header.ensures.foldable.points.0
-        c.in_ok-crew.ensures.front (c.in_ok-fold_points.ensures.folded setup c.in_ok-crew.ensures.alike) c.config-config.ensures.value c.in_default.ensures in
+    c.in_ok-crew.crew.front c.fold_points.new.crew.front c.in_ok-header.ensures.started c.in_ok-header.ensures.foldable.points.0
+    c.in_ok-crew.ensures.front (c.in_ok-fold_points.ensures.folded setup c.in_ok-crew.ensures.alike) c.config-config.ensures.value c.in_default.ensures in
     rw c.front.ensures (is.over, is.some)
 
 pub returns-in_err-report-clause-served : goal.returns-in_err-report-clause-served
 returns-in_err-report-clause-served g c =
     let setup : Setup = record { header = c.in_ok-header.header; config = c.config-config.result } in
     let is = estimate_is c.args.asked.now c.args.test.now c.in_ok-header.header c.config-config.result c.read_header.new.intake _ _ _
-        c.in_ok-crew.crew.front c.fold_points.new.crew.front c.in_ok-header.ensures.started c.in_ok-header.ensures.foldable.points.0
-        c.in_ok-crew.ensures.front (c.in_ok-fold_points.ensures.folded setup c.in_ok-crew.ensures.alike) c.config-config.ensures.value c.in_default.ensures in
+    c.in_ok-crew.crew.front c.fold_points.new.crew.front c.in_ok-header.ensures.started c.in_ok-header.ensures.foldable.points.0
+    c.in_ok-crew.ensures.front (c.in_ok-fold_points.ensures.folded setup c.in_ok-crew.ensures.alike) c.config-config.ensures.value c.in_default.ensures in
     served_refusal c.args.asked.now c.args.test.now c.in_ok-header.header _ _ c.fold_points.new.crew.front
     c.from_residual-in_err-report.result c.in_err-report.field-0.0 c.from_residual-in_err-report.ensures.1 is
     (rw c.front.ensures at c.in_err-report.ensures)
@@ -81,7 +82,7 @@ pub returns-clause-served : goal.returns-clause-served
 returns-clause-served g c =
     let setup : Setup = record { header = c.in_ok-header.header; config = c.config-config.result } in
     let is = estimate_is c.args.asked.now c.args.test.now c.in_ok-header.header c.config-config.result c.read_header.new.intake _ _ _
-        c.in_ok-crew.crew.front c.fold_points.new.crew.front c.in_ok-header.ensures.started c.in_ok-header.ensures.foldable.points.0
-        c.in_ok-crew.ensures.front (c.in_ok-fold_points.ensures.folded setup c.in_ok-crew.ensures.alike) c.config-config.ensures.value c.in_default.ensures in
+    c.in_ok-crew.crew.front c.fold_points.new.crew.front c.in_ok-header.ensures.started c.in_ok-header.ensures.foldable.points.0
+    c.in_ok-crew.ensures.front (c.in_ok-fold_points.ensures.folded setup c.in_ok-crew.ensures.alike) c.config-config.ensures.value c.in_default.ensures in
     served_report c.args.asked.now c.args.test.now c.in_ok-header.header _ _ c.fold_points.new.crew.front c.in_ok-report.field-0 is
     (rw c.front.ensures at c.in_ok-report.ensures)
